@@ -96,7 +96,7 @@ typedef struct esr_bank_txn {
     struct esr_bank_txn *next; /* among the active ones */
     uint32_t txn;          /* its number, for esr_explain, esr_picture and esr_bundle */
     uint64_t settled;      /* the part of its limit and of its charges that is in earlier histories only */
-    uint64_t renewals;     /* that it was carried over */
+    uint64_t renewals;     /* that it was carried over: if any, these calls show its repeated reads of the last history */
     uint32_t refusal;      /* the refusal that ended it, if the result is ESR_BANK_REFUSED */
     esr_status status;     /* the status that ended it, if the result is ESR_BANK_FAILED */
     double turn, waited;   /* seconds: the turn of an event, and the time waited so far */

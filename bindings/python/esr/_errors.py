@@ -76,7 +76,7 @@ class Misuse(EsrError, RuntimeError):
 
 
 class ReportCarried(EsrError):
-    """A report was carried over a renewal, so its finding is a bound, and it has no bundle.
+    """A report was carried over a renewal, so its finding is a bound, and it has neither bundle nor picture.
 
     >>> from esr import ReportCarried
     >>> issubclass(ReportCarried, EsrError)

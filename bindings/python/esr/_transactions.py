@@ -27,7 +27,7 @@ SHOWN_UPDATES = 8
 @dataclass(frozen=True, repr=False)
 class Finding:
     """The result of a report's audit. A notebook shows it as a picture, as long as the report's history exists. Its text
-    abbreviates a long `before`. The distance of a report that was carried over renewals is an upper bound.
+    abbreviates a long `before`. That of a report that was carried over renewals has an upper bound as distance, and no picture.
 
     >>> from esr import Bank
     >>> bank = Bank({"checking": 500})
@@ -495,9 +495,14 @@ class Query(Transaction):
         >>> json.loads(report.bundle())["certificate"]["worth"]
         0
         """
-        if self._carried:
-            raise ReportCarried(f"{self._shown()} was carried over {self._carried} renewals: it has a bound, and no certificate")
+        self._check_exact()
         return self._audit_text(c.library.esr_bundle)
+
+    def _check_exact(self) -> None:
+        """Raises `ReportCarried` if the report was carried: its audit in the last history is of repeated reads."""
+        if self._carried:
+            bound = "it has a bound, and neither certificate nor picture"
+            raise ReportCarried(f"{self._shown()} was carried over {self._carried} renewals: {bound}")
 
     def explain(self) -> str:
         """Returns the text of `esr explain`: each read with the value at the nearest serial placement, each charge with the
@@ -520,7 +525,8 @@ class Query(Transaction):
         return f"distance at most {found.distance} import {found.charged} renewals {found.renewals}"
 
     def picture(self) -> str:
-        """Returns its audit as a picture, as `esr picture` draws it: one SVG. Transactions are `t1`, `t2`.
+        """Returns its audit as a picture, as `esr picture` draws it: one SVG. Transactions are `t1`, `t2`. Raises
+        `ReportCarried` if the report was carried over a renewal.
 
         >>> from esr import Bank
         >>> with Bank({"checking": 500}).report(0) as report:
@@ -529,13 +535,11 @@ class Query(Transaction):
         >>> report.picture().splitlines()[-1]
         '</svg>'
         """
-        picture = self._audit_text(c.library.esr_picture, self._bank._names, len(self._bank._names)).decode()
-        if not self._carried:
-            return picture
-        return picture.replace("</svg>", f'<text x="4" y="12" font-size="12">{self._bound()}</text>\n</svg>', 1)
+        self._check_exact()
+        return self._audit_text(c.library.esr_picture, self._bank._names, len(self._bank._names)).decode()
 
     def _repr_svg_(self) -> Optional[str]:
-        """Returns the picture for a notebook, or None if the report has not committed or its history is gone."""
+        """Returns the picture for a notebook, or None if the report has not committed, was carried, or its history is gone."""
         try:
             return self.picture()
         except EsrError:

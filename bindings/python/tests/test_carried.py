@@ -90,6 +90,8 @@ class Carried(unittest.TestCase):
             bank.transact(9, lambda update: update.add("a", 4))
             renew(bank, 1)
         self.assertRaises(ReportCarried, report.bundle)
+        self.assertRaises(ReportCarried, report.picture)
+        self.assertIsNone(report.finding._repr_svg_())
         self.assertTrue(report.explain().startswith("distance at most 4 import 4 renewals 1\n"))
         bank._due.append(report)
         renew(bank, 2)

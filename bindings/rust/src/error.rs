@@ -56,7 +56,7 @@ pub enum Error {
     /// The bank has been renewed since the report, so its history is gone. Audit in
     /// [`BankBuilder::before_renewal`](crate::BankBuilder::before_renewal) or earlier.
     ReportExpired,
-    /// The report was carried over renewals, so its distance has an upper bound, and no certificate.
+    /// The report was carried over renewals, so its distance has an upper bound, and neither certificate nor picture.
     ReportCarried {
         /// How many renewals.
         renewals: u64,
@@ -153,7 +153,7 @@ impl fmt::Display for Error {
             ),
             Error::ReportCarried { renewals } => write!(
                 f,
-                "carried over {renewals} renewals: the report has a bound, and no certificate"
+                "carried over {renewals} renewals: the report has a bound, and neither certificate nor picture"
             ),
             Error::HistoryFull => f.write_str("history full"),
             Error::NoMemory => f.write_str("out of memory"),

@@ -3,7 +3,7 @@
 
 use esr::{Bank, Error, MAX_ENTRIES, Options, Patience, Refusal};
 use std::{
-    env,
+    env, panic,
     sync::{Arc, Barrier, Mutex},
     thread,
     time::{Duration, Instant},
@@ -199,6 +199,8 @@ fn a_carried_report_is_due_once() -> Result<(), Error> {
                 );
                 let has_bundle = closing.bundle(report).is_ok();
                 assert_eq!(has_bundle, finding.is_exact());
+                let has_picture = closing.picture(report).is_ok();
+                assert_eq!(has_picture, finding.is_exact());
                 findings.push(finding.to_string());
             }
             closed.lock().expect("no panic").push(findings);
@@ -213,6 +215,7 @@ fn a_carried_report_is_due_once() -> Result<(), Error> {
     })?;
     let renewals = 1;
     assert_eq!(bank.bundle(report), Err(Error::ReportCarried { renewals }));
+    assert_eq!(bank.picture(report), Err(Error::ReportCarried { renewals }));
     renew(&bank, 2);
     let seen = seen.lock().expect("no panic");
     assert_eq!(seen[0], ["distance 0 import 0 before -"]);
@@ -253,6 +256,54 @@ fn a_history_full_of_one_update() -> Result<(), Error> {
     Ok(())
 }
 
+/// If nearly all entries are of one active update, a renewal frees nothing, so no begin tries it.
+#[test]
+fn a_renewal_that_frees_nothing_is_not_tried() -> Result<(), Error> {
+    let builder = Bank::builder().items([("a", 0), ("hits", 0)]);
+    let builder = builder.try_before_renewal(|_| Err("it was tried".into()));
+    let bank = builder.open()?;
+    bank.transact_stepwise(0, |slow| {
+        for _ in 0..MAX_ENTRIES / 10 * 9 {
+            slow.read("a")?;
+        }
+        for _ in 0..3 {
+            bank.transact(0, |update| update.add("hits", 1))?;
+        }
+        Ok(())
+    })?;
+    let metrics = bank.metrics();
+    assert_eq!((metrics.failed_renewals, metrics.renewals), (0, 0));
+    assert_eq!(bank.value("hits")?, 3);
+    Ok(())
+}
+
+/// A history with a carried transaction is renewed early, because a renewal that searches a full history takes long. Once the
+/// transaction has ended, a history is as long as before.
+#[test]
+fn histories_with_carried_transactions_are_short() -> Result<(), Error> {
+    let bank = Bank::builder().items([("a", 0), ("hits", 0)]).open()?;
+    let length = |renewals| -> Result<u64, Error> {
+        let mut longest = 0;
+        while bank.renewals() < renewals {
+            longest = bank.counts()?.entries;
+            bank.transact(0, |update| update.add("hits", 1))?;
+        }
+        Ok(longest)
+    };
+    let full = length(1)?;
+    bank.report(0, |report| {
+        report.read("a")?;
+        assert!(length(2)?.abs_diff(full) < 100);
+        for renewals in 3..6 {
+            assert!(length(renewals)? < full / 2);
+        }
+        Ok(())
+    })?;
+    assert!(length(6)?.abs_diff(full) < 100);
+    assert_eq!(bank.value("hits")?, bank.metrics().updates as i64);
+    Ok(())
+}
+
 /// Refused events fill a history without any begin. Then the next event renews it.
 #[test]
 fn refused_events_do_not_stop_an_update() -> Result<(), Error> {
@@ -270,101 +321,150 @@ fn refused_events_do_not_stop_an_update() -> Result<(), Error> {
     Ok(())
 }
 
-/// Threads move money at full speed, next to reports and updates that outlive many histories: the sum that a report returns
-/// is off by at most its finding, no update waits longer than some renewals, and nothing is lost.
-#[test]
-fn a_soak_next_to_long_transactions() {
-    const ACCOUNTS: usize = 8;
-    const SUM: i64 = 1_000 * ACCOUNTS as i64;
-    let names: Vec<String> = (0..ACCOUNTS).map(|n| format!("account{n}")).collect();
-    let seconds = env::var("ESR_SOAK_SECONDS").map_or(2, |text| text.parse().expect("a number"));
-    let bank = Bank::builder()
-        .items(names.iter().map(|name| (name.as_str(), 1_000)))
-        .items([("x", 0), ("y", 0)])
-        .open()
-        .expect("ten items are within the limits");
-    let end = Instant::now() + Duration::from_secs(seconds);
-    let client = |mut random: u64| {
-        let mut draw = || {
+const ACCOUNTS: usize = 8;
+const SUM: i64 = 1_000 * ACCOUNTS as i64;
+
+/// The changes of the accounts, and their number.
+type Changes = ([i64; ACCOUNTS], u64);
+
+/// A bank of accounts, and two items of the slow updates.
+struct Soak {
+    bank: Bank,
+    names: Vec<String>,
+    end: Instant,
+}
+
+impl Soak {
+    fn new() -> Soak {
+        let names: Vec<String> = (0..ACCOUNTS).map(|n| format!("account{n}")).collect();
+        let builder = Bank::builder().items(names.iter().map(|name| (name, 1_000)));
+        let bank = builder.items([("x", 0), ("y", 0)]).open();
+        let seconds =
+            env::var("ESR_SOAK_SECONDS").map_or(2, |text| text.parse().expect("a number"));
+        Soak {
+            bank: bank.expect("ten items are within the limits"),
+            names,
+            end: Instant::now() + Duration::from_secs(seconds),
+        }
+    }
+
+    fn left(&self) -> Duration {
+        self.end.saturating_duration_since(Instant::now())
+    }
+
+    /// Moves money at full speed. Some bodies fail or panic between their events, and step by step two transfers in opposite
+    /// directions deadlock.
+    fn client(&self, mut random: u64) -> Changes {
+        let mut draw = |below: usize| {
             random = random
                 .wrapping_mul(6_364_136_223_846_793_005)
                 .wrapping_add(1);
-            (random >> 33) as usize % ACCOUNTS
+            (random >> 33) as usize % below
         };
-        let (mut change, mut count) = ([0; ACCOUNTS], 0_u64);
-        while Instant::now() < end {
-            let (from, to) = (draw(), draw());
+        let (mut change, mut count) = ([0; ACCOUNTS], 0);
+        while !self.left().is_zero() {
+            let (from, to, kind) = (draw(ACCOUNTS), draw(ACCOUNTS), draw(200));
             let moved = |update: &mut esr::BankUpdate<'_, '_>| {
-                update.add(&names[from], -1)?;
-                update.add(&names[to], 1)
+                update.add(&self.names[from], -1)?;
+                match kind {
+                    0 | 1 => panic!("as a body may"),
+                    2 | 3 => return Err(Error::BadNames),
+                    4..12 => thread::sleep(Duration::from_micros(100)),
+                    _ => {}
+                }
+                update.add(&self.names[to], 1).map(drop)
             };
-            let moved = match count % 8 {
-                0 => bank.transact_stepwise(LARGE, moved),
-                _ => bank.transact(LARGE, moved),
+            let run = || match kind % 2 {
+                0 if kind < 40 => self.bank.transact_stepwise(LARGE, moved),
+                _ => self.bank.transact(LARGE, moved),
             };
-            moved.expect("its patience is long");
-            change[from] -= 1;
-            change[to] += 1;
-            count += 1;
+            match panic::catch_unwind(panic::AssertUnwindSafe(run)) {
+                Ok(Ok(())) => {
+                    change[from] -= 1;
+                    change[to] += 1;
+                    count += 1;
+                }
+                Ok(Err(error)) => assert_eq!((error, kind / 2), (Error::BadNames, 1)),
+                Err(_) => assert_eq!(kind / 2, 0, "another panic than that of a body"),
+            }
         }
-        change
-    };
-    let clerk = || {
+        (change, count)
+    }
+
+    /// Sums the accounts, each time for a share of the time that is left. Returns the maximum number of renewals of a report.
+    fn clerk(&self, share: u32) -> u64 {
         let mut renewals = 0;
-        while Instant::now() < end {
-            let pause = (end - Instant::now()) / (2 * ACCOUNTS as u32);
-            let (sum, finding) = bank
-                .report(10 * LARGE, |report| {
-                    let mut sum = 0;
-                    for name in &names {
-                        sum += report.read(name)?;
-                        thread::sleep(pause);
-                    }
-                    Ok(sum)
-                })
-                .expect("its limit is never met");
+        while !self.left().is_zero() {
+            let pause = self.left() / (share * ACCOUNTS as u32);
+            let report = self.bank.report(10 * LARGE, |report| {
+                let mut sum = 0;
+                for name in &self.names {
+                    sum += report.read(name)?;
+                    thread::sleep(pause);
+                }
+                Ok(sum)
+            });
+            let (sum, finding) = report.expect("its limit is never met");
             assert!(sum.abs_diff(SUM) <= finding.distance, "{sum}, {finding}");
             assert!(finding.distance <= finding.import);
             renewals = finding.renewals.max(renewals);
         }
         renewals
-    };
-    let slow = || {
+    }
+
+    /// Holds two locks again and again. Returns how often.
+    fn slow(&self) -> i64 {
         let mut count = 0;
-        while Instant::now() < end {
-            bank.transact_stepwise(0, |slow| {
+        while !self.left().is_zero() {
+            let result = self.bank.transact_stepwise(0, |slow| {
                 slow.add("x", 1)?;
                 let y = slow.add("y", 1)?;
                 thread::sleep(Duration::from_millis(400));
                 assert_eq!(slow.read("y")?, y);
                 Ok(())
-            })
-            .expect("it has its locks");
+            });
+            result.expect("it has its locks");
             count += 1;
         }
         count
-    };
-    let (changes, renewals, slows) = thread::scope(|threads| {
-        let (clerk, slow) = (threads.spawn(clerk), threads.spawn(slow));
-        let clients: Vec<_> = (1..=3)
-            .map(|seed| threads.spawn(move || client(seed)))
-            .collect();
-        let changes = clients
+    }
+}
+
+/// Five threads move money at full speed, with panics, errors and deadlocks, next to two threads of reports and one of updates
+/// that outlive many histories: the sum that a report returns is off by at most its finding, and nothing is lost.
+#[test]
+fn a_soak_next_to_long_transactions() {
+    panic::set_hook(Box::new(|info| {
+        let text = info.to_string();
+        if !text.contains("as a body may") {
+            eprintln!("{text}");
+        }
+    }));
+    let soak = &Soak::new();
+    let (all, renewals, slows) = thread::scope(|threads| {
+        let clerks = [2, 20].map(|share| threads.spawn(move || soak.clerk(share)));
+        let slow = threads.spawn(|| soak.slow());
+        let clients = (1..=5).map(|seed| threads.spawn(move || soak.client(seed)));
+        let clients: Vec<_> = clients.collect();
+        let all = clients
             .into_iter()
             .map(|client| client.join().expect("no panic"));
-        let changes: Vec<_> = changes.collect();
+        let all: Vec<Changes> = all.collect();
         (
-            changes,
-            clerk.join().expect("no panic"),
+            all,
+            clerks.map(|clerk| clerk.join().expect("no panic")),
             slow.join().expect("no panic"),
         )
     });
-    for (n, name) in names.iter().enumerate() {
-        let change: i64 = changes.iter().map(|change| change[n]).sum();
+    let bank = &soak.bank;
+    for (n, name) in soak.names.iter().enumerate() {
+        let change: i64 = all.iter().map(|(change, _)| change[n]).sum();
         assert_eq!(bank.value(name), Ok(1_000 + change));
     }
     assert_eq!((bank.value("x"), bank.value("y")), (Ok(slows), Ok(slows)));
     let metrics = bank.metrics();
+    let committed: u64 = all.iter().map(|(_, count)| count).sum();
+    assert_eq!(metrics.updates, committed + slows as u64);
     assert_eq!((metrics.active, metrics.failed_renewals), (0, 0));
-    println!("{renewals} renewals of one report, {metrics:?}");
+    println!("{renewals:?} renewals of a report, {metrics:?}");
 }

@@ -1,13 +1,16 @@
 //! A bank with a store in memory that fails on command or holds its writes back.
 
-use esr::{Bank, BankBuilder, BankUpdate, Change, Error, Options, Patience, Store, StoreError};
+use esr::{
+    Bank, BankBuilder, BankUpdate, Change, Error, MAX_TRANSACTIONS, Options, Patience, Store,
+    StoreError,
+};
 use std::{
     collections::{BTreeMap, VecDeque},
     panic::{self, AssertUnwindSafe},
     sync::{
         Arc, Condvar, Mutex, MutexGuard,
         atomic::{AtomicBool, AtomicU64, Ordering},
-        mpsc::channel,
+        mpsc::{RecvTimeoutError, channel},
     },
     thread,
     time::{Duration, Instant},
@@ -676,6 +679,35 @@ fn threads_lose_nothing_while_writes_fail() {
     let moved = THREADS as i64 * TURNS;
     assert_eq!((store.total(), store.value("pocket")), (2000, moved));
     assert_eq!(values(&bank), [500, 1500 - moved, moved]);
+}
+
+/// The work before a renewal waits until the store has an update that committed before it.
+#[test]
+fn the_work_before_a_renewal_waits_for_the_store() {
+    let store = Fake::default();
+    let (sender, receiver) = channel();
+    let (sender, closing) = (Mutex::new(sender), store.clone());
+    let builder = builder(&store).before_renewal(move |_| {
+        let stored = closing.value("pocket");
+        sender.lock().unwrap().send(stored).unwrap();
+    });
+    let bank = builder.open().unwrap();
+    // a tenth of the numbers is reserved: the next update is the last one of this history
+    while bank.counts().unwrap().transactions_left > u64::from(MAX_TRANSACTIONS / 10) + 1 {
+        bank.transact(0, |update| update.read("pocket")).unwrap();
+    }
+    store.hold(true);
+    let add = || bank.transact(1, |update| update.add("pocket", 1)).unwrap();
+    thread::scope(|scope| {
+        scope.spawn(add);
+        store.wait_for_writes(1);
+        scope.spawn(add);
+        let early = receiver.recv_timeout(Duration::from_millis(200));
+        store.hold(false);
+        assert_eq!(early, Err(RecvTimeoutError::Timeout), "it did not wait");
+        assert_eq!(receiver.recv(), Ok(1));
+    });
+    assert_eq!((bank.renewals(), store.value("pocket")), (1, 2));
 }
 
 /// A renewal keeps the values, and the work before it sees only updates that the store has.

@@ -105,7 +105,7 @@ impl<'a> Closing<'a> {
     /// # Errors
     /// `NotACommittedQuery`, `NoMemory`, `ReportCarried`.
     pub fn bundle(&mut self, report: Txn) -> Result<Vec<u8>, Error> {
-        self.past(report).check_certifiable()?;
+        self.past(report).check_exact()?;
         self.engine.bundle(report)
     }
 
@@ -166,10 +166,10 @@ impl<'a> Closing<'a> {
     /// ```
     ///
     /// # Errors
-    /// `NotACommittedQuery`, `NoMemory`.
+    /// `NotACommittedQuery`, `NoMemory`, `ReportCarried`.
     pub fn picture(&mut self, report: Txn) -> Result<String, Error> {
-        let picture = self.engine.picture_by(report, self.items.texts())?;
-        self.past(report).pictured(self.engine, report, picture)
+        self.past(report).check_exact()?;
+        self.engine.picture_by(report, self.items.texts())
     }
 
     /// Returns the ledger of the whole history: see [`Bank::ledger`](crate::Bank::ledger).

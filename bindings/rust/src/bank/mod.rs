@@ -815,7 +815,7 @@ impl Bank {
     /// Those of [`audit`](Bank::audit), and `ReportCarried`.
     pub fn bundle(&self, report: Report) -> Result<Vec<u8>, Error> {
         let mut state = self.lock_with(report)?;
-        state.past(report.query).check_certifiable()?;
+        state.past(report.query).check_exact()?;
         let bundle = state.engine.bundle(report.query)?;
         drop(state);
         self.wait_for_store()?;
@@ -832,12 +832,11 @@ impl Bank {
     /// ```
     ///
     /// # Errors
-    /// Those of [`audit`](Bank::audit).
+    /// Those of [`audit`](Bank::audit), and `ReportCarried`.
     pub fn picture(&self, report: Report) -> Result<String, Error> {
         let mut state = self.lock_with(report)?;
+        state.past(report.query).check_exact()?;
         let picture = state.engine.picture_by(report.query, self.items.texts())?;
-        let past = state.past(report.query);
-        let picture = past.pictured(&mut state.engine, report.query, picture)?;
         drop(state);
         self.wait_for_store()?;
         Ok(picture)

@@ -54,22 +54,9 @@ impl Past {
         ))
     }
 
-    /// Writes its bound into the picture of a carried report.
-    pub(super) fn pictured(
-        self,
-        engine: &mut Engine,
-        query: Txn,
-        picture: String,
-    ) -> Result<String, Error> {
-        let Some(finding) = self.finding(engine, query)? else {
-            return Ok(picture);
-        };
-        let note = format!("<text x=\"4\" y=\"12\" font-size=\"12\">{finding}</text>\n</svg>");
-        Ok(picture.replacen("</svg>", &note, 1))
-    }
-
-    /// Fails for a carried report, which has no certificate.
-    pub(super) fn check_certifiable(self) -> Result<(), Error> {
+    /// Fails for a carried report: its audit in the last history is of repeated reads, so it has no certificate and no
+    /// picture.
+    pub(super) fn check_exact(self) -> Result<(), Error> {
         let renewals = self.renewals;
         if renewals > 0 {
             return Err(Error::ReportCarried { renewals });

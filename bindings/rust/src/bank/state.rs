@@ -5,6 +5,10 @@
 //! all that is kept here are mapped: of active and waiting transactions, and of names. The part of its charges that is
 //! *settled* in earlier histories is kept (`Past`), because its limit, its charges and the finding of a report are those over
 //! all histories. Nothing waits for an active transaction, unless nearly all entries of the history are of active ones.
+//!
+//! A renewal that carries searches the whole history for the operations of active transactions, and all threads wait meanwhile.
+//! So a history with a carried transaction is short, which divides the same time among more renewals. A renewal without active
+//! transactions does not search, and the engine keeps its memory.
 
 use super::{past::Past, watch::Watch};
 use crate::{
@@ -26,6 +30,9 @@ pub(super) const RESERVED_NUMBERS: u64 = MAX_TRANSACTIONS as u64 / 10;
 const FULL: u64 = 10_000;
 /// A renewal that frees fewer entries costs more than it gains, unless it frees transaction numbers.
 const MIN_FREED: u64 = 25_000;
+/// A history with a transaction that was carried into it is renewed when it has grown by its entries at the opening and this
+/// number: a renewal that carries takes a time for each entry, in which all threads wait.
+const SHORT: u64 = 100_000;
 /// A failed renewal is retried after this time.
 pub(super) const RETRY: Duration = Duration::from_millis(100);
 
@@ -83,6 +90,10 @@ pub(super) struct State {
     pub(super) feed: Option<Feed>,
     /// A renewal is due when this number of transactions is left.
     pub(super) reserved: u64,
+    /// The active transactions that were carried into this history.
+    carried: usize,
+    /// With this number of entries a renewal is due if there are any.
+    short: u64,
     /// When a failed renewal is retried, and why it failed.
     pub(super) failed_renewal: Option<(Instant, String)>,
     /// The threads that wait for capacity in the history.
@@ -107,6 +118,8 @@ impl State {
             metrics: Metrics::default(),
             feed,
             reserved,
+            carried: 0,
+            short: SHORT,
             failed_renewal: None,
             waiting_for_capacity: Vec::new(),
             names: HashMap::new(),
@@ -120,7 +133,9 @@ impl State {
     }
 
     pub(super) fn is_nearly_full_at(&self, counts: &Counts) -> bool {
-        counts.transactions_left <= self.reserved || counts.entries_left <= NEARLY_FULL
+        counts.transactions_left <= self.reserved
+            || counts.entries_left <= NEARLY_FULL
+            || (self.carried > 0 && counts.entries >= self.short)
     }
 
     /// Reports whether a history that is nearly full is continued: it has capacity, and either a failed renewal is not
@@ -245,8 +260,15 @@ impl State {
             Some(_) => self.engine.values()?,
             None => Vec::new(),
         };
-        let carried = self.engine.renew_carrying()?;
-        self.renumber(&carried);
+        if self.active.is_empty() {
+            self.engine.renew()?;
+            (self.pasts, self.names) = Default::default();
+        } else {
+            let carried = self.engine.renew_carrying()?;
+            self.renumber(&carried);
+        }
+        self.carried = self.active.len();
+        self.short = 2 * self.engine.counts().entries + SHORT;
         if let Some(feed) = &mut self.feed {
             feed.renew(values);
         }
@@ -418,6 +440,7 @@ impl State {
             .iter()
             .position(|active| active.handle == handle);
         let mut active = self.active.swap_remove(index.expect("it is active"));
+        self.carried -= usize::from(self.pasts.contains_key(&active.txn.number()));
         active.reads.clear();
         active.writes.clear();
         self.spare.push((active.reads, active.writes));
