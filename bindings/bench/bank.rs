@@ -1,16 +1,21 @@
-//! The load of `threads.h` over a `Bank`, with the same arguments and output. It compiles with older versions of the crate,
-//! too: `--cfg background` uses the second engine for audits, and `--cfg stepwise` runs updates step by step.
+//! The load of `threads.h` over a `Bank`, with the same arguments and output, and one number more: the longest transaction
+//! during the commit and audit of a report, in microseconds. It compiles with older versions of the crate, too: `--cfg
+//! background` uses the second engine for audits, and `--cfg stepwise` runs updates step by step.
 
 use esr::{Bank, Error};
 use std::{
     env,
-    sync::atomic::{AtomicBool, Ordering},
+    sync::atomic::{AtomicBool, AtomicUsize, Ordering},
     thread,
     time::{Duration, Instant},
 };
 
 const ITEMS: usize = 4096;
 const LIMIT: u64 = 1_000_000_000_000_000_000;
+
+/// The number of reports whose bodies have ended, and of those whose audits have ended.
+static READ: AtomicUsize = AtomicUsize::new(0);
+static AUDITED: AtomicUsize = AtomicUsize::new(0);
 
 fn next_below(state: &mut u64, span: usize) -> usize {
     *state ^= *state << 13;
@@ -19,10 +24,11 @@ fn next_below(state: &mut u64, span: usize) -> usize {
     ((*state >> 32) as usize * span) >> 32
 }
 
-/// Runs transactions until the end, and returns their latencies in nanoseconds.
-fn work(bank: &Bank, names: &[String], place: (usize, usize), is_hot: bool, ended: &AtomicBool) -> Vec<u32> {
+/// Runs transactions until the end. Returns their latencies in nanoseconds, and the longest of one that overlaps with the end
+/// of a report.
+fn work(bank: &Bank, names: &[String], place: (usize, usize), is_hot: bool, ended: &AtomicBool) -> (Vec<u32>, u32) {
     let (id, threads) = place;
-    let (span, mut latencies) = (ITEMS / threads, Vec::with_capacity(1 << 22));
+    let (span, mut latencies, mut longest) = (ITEMS / threads, Vec::with_capacity(1 << 22), 0);
     let mut state = 88_172_645_463_325_252 + 7919 * id as u64;
     while !ended.load(Ordering::Relaxed) {
         let mut items = [0; 4];
@@ -44,16 +50,20 @@ fn work(bank: &Bank, names: &[String], place: (usize, usize), is_hot: bool, ende
             }
             Ok::<_, Error>(())
         };
+        let audited = AUDITED.load(Ordering::SeqCst);
         let begun = Instant::now();
         #[cfg(not(stepwise))]
         let done = bank.transact(LIMIT, body);
         #[cfg(stepwise)]
         let done = bank.transact_stepwise(LIMIT, body);
-        let nanoseconds = begun.elapsed().as_nanos();
+        let nanoseconds = begun.elapsed().as_nanos().min(u32::MAX.into()) as u32;
         done.expect("it commits");
-        latencies.push(nanoseconds.min(u32::MAX.into()) as u32);
+        latencies.push(nanoseconds);
+        if READ.load(Ordering::SeqCst) > audited {
+            longest = longest.max(nanoseconds);
+        }
     }
-    latencies
+    (latencies, longest)
 }
 
 /// Sums 1,000 items again and again. Returns the number of reports, and the longest.
@@ -66,8 +76,10 @@ fn report(bank: &Bank, names: &[String], period: Duration, ended: &AtomicBool) -
             let sum = report.read_all(names.iter().step_by(4).take(1000))?.iter().sum::<i64>();
             #[cfg(before)]
             let sum = names.iter().step_by(4).take(1000).map(|name| report.read(name)).sum::<Result<i64, Error>>()?;
+            READ.store(count + 1, Ordering::SeqCst);
             Ok::<_, Error>(sum)
         });
+        AUDITED.store(count + 1, Ordering::SeqCst);
         let (_, finding) = sum.expect("it commits");
         assert!(finding.distance <= finding.import);
         longest = longest.max(begun.elapsed());
@@ -90,16 +102,16 @@ fn main() {
     let bank = builder.open().expect("the items are within the limits");
     let ended = AtomicBool::new(false);
     let begun = Instant::now();
-    let (mut latencies, reports, taken) = thread::scope(|scope| {
+    let (mut latencies, pause, reports, taken) = thread::scope(|scope| {
         let (bank, names, ended) = (&bank, &names[..], &ended);
         let workers = (0..threads).map(|id| scope.spawn(move || work(bank, names, (id, threads), is_hot, ended)));
         let workers: Vec<_> = workers.collect();
         let reporter = (!period.is_zero()).then(|| scope.spawn(move || report(bank, names, period, ended)));
         thread::sleep(Duration::from_secs_f64(time));
         ended.store(true, Ordering::Relaxed);
-        let all: Vec<u32> = workers.into_iter().flat_map(|worker| worker.join().expect("no panic")).collect();
-        let taken = begun.elapsed();
-        (all, reporter.map(|reporter| reporter.join().expect("no panic")), taken)
+        let (all, pauses): (Vec<_>, Vec<u32>) = workers.into_iter().map(|worker| worker.join().expect("no panic")).unzip();
+        let (taken, pause) = (begun.elapsed(), pauses.into_iter().max().unwrap_or_default());
+        (all.concat(), pause, reporter.map(|reporter| reporter.join().expect("no panic")), taken)
     });
     let sum: i64 = names.iter().map(|name| bank.value(name.as_str()).expect("it is there")).sum();
     assert_eq!(sum, 4 * latencies.len() as i64, "a transaction was lost");
@@ -110,5 +122,5 @@ fn main() {
         print!(" {:.1}", f64::from(latencies[place]) / 1000.0);
     }
     let (count, longest) = reports.unwrap_or_default();
-    println!(" {count} {}", longest.as_micros());
+    println!(" {count} {} {}", longest.as_micros(), pause / 1000);
 }

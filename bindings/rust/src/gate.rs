@@ -9,16 +9,25 @@
 //! [`Gate`] decides who enters. The value itself is in an ordinary mutex, which is always free for the thread that has
 //! entered, so the exclusion does not depend on this module.
 //!
-//! Wake-ups are not lost. A sleeper counts itself, or marks that it is not woken, and then tries the gate; the holder opens
-//! the gate and then looks for sleepers. A holder that leaves the gate to a polling thread relies on that thread, which
-//! either enters, or sleeps by the same rule, or passes the duty on when it gives up. These operations are sequentially
-//! consistent, so at least one side sees the other; the tests try every schedule.
+//! Wake-ups are not lost. A sleeper counts itself and then tries the gate; the holder opens the gate and then loads the
+//! count. Each stores and then loads what the other stores, and all four operations are sequentially consistent, a failed try
+//! too, so at least one sees the other. A sleeper that has run in vain marks, under the mutex of the queue, that it is not
+//! woken, and tries again: a holder that had found it marked as woken had opened the gate before, so this try succeeds or
+//! meets a later holder. A holder that leaves the gate to a polling thread relies on that thread, which enters, or sleeps by
+//! the same rule, or passes the duty on when it gives up. The other loads of the gate only decide when a thread tries, so
+//! they are relaxed. The tests try every schedule, and every store that a load may observe.
+//!
+//! A thread has one token for all that unparks it: the gate, the end of a blocker (`waits`) and free capacity. A sleeper may
+//! consume one that was for another purpose, so a thread that is to be woken must not take this lock between its registration
+//! and its own park (`bank::handle`). Each park has a timeout, which bounds the delay if it does.
+//!
+//! A holder that panics opens the gate as its guard is dropped.
 //!
 //! Rejected: the standard mutex after a spin phase, whose 99.9th percentile is milliseconds when there are more threads than
 //! processors; handing the lock to a sleeper, which leaves it idle until that thread runs and then ends in a convoy (a
 //! seventh of the throughput); ticket and queue locks, which wait for preempted threads; combining, by which the holder
-//! executes the drafts of threads that poll: it gained nothing (`bench/RESULTS.md`), perhaps because their items are then in the
-//! cache of the holder, and the next holder is another thread.
+//! executes the drafts of threads that poll: it gained nothing (`bench/RESULTS.md`), perhaps because their items are then in
+//! the cache of the holder, and the next holder is another thread.
 
 use crate::sync::{AtomicU64, Instant, Thread, current, park_timeout, spin_loop};
 use std::{
@@ -81,7 +90,7 @@ impl Gate {
     fn try_enter(&self) -> bool {
         self.state
             .0
-            .compare_exchange(OPEN, TAKEN, Ordering::SeqCst, Ordering::Relaxed)
+            .compare_exchange(OPEN, TAKEN, Ordering::SeqCst, Ordering::SeqCst)
             .is_ok()
     }
 
@@ -314,6 +323,21 @@ mod tests {
             assert!(now < NAP, "a wake-up was lost");
         });
         println!("{runs} schedules of three threads");
+    }
+
+    /// For every store that a load may observe, no wake-up is lost.
+    #[test]
+    fn no_order_of_memory_loses_a_wakeup() {
+        let once: fn(&Lock<u64>) = |lock| *lock.lock() += 1;
+        let fickle: fn(&Lock<u64>) = |lock| _ = lock.lock_while(None, || false);
+        for (threads, switches) in [(vec![once; 2], 3), (vec![once, once, fickle], 1)] {
+            let test = || (Arc::new(Lock::new(0)), threads.clone());
+            let runs = explore(Depth::fine(switches), test, |lock, now| {
+                assert_eq!(*lock.value.lock().unwrap(), 2);
+                assert!(now < NAP, "a wake-up was lost");
+            });
+            println!("{runs} schedules of {} threads", threads.len());
+        }
     }
 
     /// A sleeper that is overdue gets the lock although two other threads take it all the time.

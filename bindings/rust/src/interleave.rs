@@ -6,8 +6,9 @@
 //! continue are free.
 //!
 //! Atomics follow the release-acquire model with per-thread views: a relaxed or acquire load may return any store that is
-//! not older than what the thread has already observed, and each possible store is one more choice. Sequentially consistent
-//! operations, read-modify-writes and loads after a spin observe the newest store. Load buffering is not modelled.
+//! not older than what the thread has already observed, and each possible store is one more choice. A compare-exchange that
+//! fails is such a load, with its failure order. Sequentially consistent operations, read-modify-writes and loads after a
+//! spin observe the newest store. Load buffering is not modelled.
 //!
 //! Time is virtual: it advances only when every thread waits, and then to the earliest deadline. So a test that asserts that
 //! no time has passed finds a lost wake-up, which a timeout would hide otherwise.
@@ -414,19 +415,26 @@ impl AtomicU64 {
         stores
     }
 
-    /// Loads a store that this thread may observe, the newest one first among the choices.
-    fn observe(&self, run: &Run, me: usize, order: Ordering, newest: bool) -> u64 {
+    /// Loads a store that this thread may observe: the newest one, which is the first choice, or an older one whose value
+    /// `may_be_old` accepts.
+    fn observe(
+        &self,
+        run: &Run,
+        me: usize,
+        order: Ordering,
+        may_be_old: impl Fn(u64) -> bool,
+    ) -> u64 {
         let mut state = run.lock();
         let stores = self.stores(run, &mut state);
         let location = stores.location;
         let oldest = seen(&state.threads[me].current, location);
         let last = stores.list.len() - 1;
-        let options = if newest || order == Ordering::SeqCst || !run.depth.is_fine {
-            1
-        } else {
-            last - oldest + 1
-        };
-        let index = last - state.choose(options);
+        let mut options = vec![last];
+        if order != Ordering::SeqCst && run.depth.is_fine {
+            let older = (oldest..last).rev();
+            options.extend(older.filter(|index| may_be_old(stores.list[*index].0)));
+        }
+        let index = options[state.choose(options.len())];
         let (value, view) = stores.list[index].clone();
         drop(stores);
         let sim = &mut state.threads[me];
@@ -467,7 +475,7 @@ impl AtomicU64 {
         if run.depth.is_fine || is_acquire(order) {
             run.point(me);
         }
-        self.observe(&run, me, order, false)
+        self.observe(&run, me, order, |_| true)
     }
 
     pub(crate) fn store(&self, value: u64, order: Ordering) {
@@ -480,22 +488,23 @@ impl AtomicU64 {
         self.publish(&run, me, value, order, false);
     }
 
-    fn update(&self, order: Ordering, change: impl Fn(u64) -> Option<u64>) -> Result<u64, u64> {
+    /// Replaces the newest value. Returns it.
+    fn update(&self, order: Ordering, change: impl Fn(u64) -> u64) -> u64 {
         let Some((run, me)) = simulated() else {
-            return self
+            let change = |old| Some(change(old));
+            let changed = self
                 .real
                 .fetch_update(Ordering::SeqCst, Ordering::SeqCst, change);
+            return changed.expect("it is changed in any case");
         };
         run.point(me);
-        let old = self.observe(&run, me, order, true);
-        let new = change(old).ok_or(old)?;
-        self.publish(&run, me, new, order, true);
-        Ok(old)
+        let old = self.observe(&run, me, order, |_| false);
+        self.publish(&run, me, change(old), order, true);
+        old
     }
 
     pub(crate) fn fetch_add(&self, more: u64, order: Ordering) -> u64 {
-        self.update(order, |old| Some(old.wrapping_add(more)))
-            .expect("it is changed in any case")
+        self.update(order, |old| old.wrapping_add(more))
     }
 
     pub(crate) fn fetch_sub(&self, less: u64, order: Ordering) -> u64 {
@@ -503,8 +512,7 @@ impl AtomicU64 {
     }
 
     pub(crate) fn swap(&self, new: u64, order: Ordering) -> u64 {
-        self.update(order, |_| Some(new))
-            .expect("it is changed in any case")
+        self.update(order, |_| new)
     }
 
     pub(crate) fn compare_exchange(
@@ -512,9 +520,20 @@ impl AtomicU64 {
         old: u64,
         new: u64,
         order: Ordering,
-        _failure: Ordering,
+        failure: Ordering,
     ) -> Result<u64, u64> {
-        self.update(order, |found| (found == old).then_some(new))
+        let Some((run, me)) = simulated() else {
+            return self.real.compare_exchange(old, new, order, failure);
+        };
+        run.point(me);
+        // one that fails is a load, which may observe an older store
+        let found = self.observe(&run, me, failure, |value| value != old);
+        if found != old {
+            return Err(found);
+        }
+        self.observe(&run, me, order, |_| false);
+        self.publish(&run, me, new, order, true);
+        Ok(old)
     }
 }
 
@@ -740,6 +759,45 @@ mod tests {
         };
         let all = message_passing(Ordering::Release, fenced);
         assert_eq!(all, [(0, 0), (0, 1), (1, 1)]);
+    }
+
+    /// Of two threads that each store and then try to take the other's flag, one sees the other, unless a failed try may
+    /// observe an old store.
+    #[test]
+    fn failed_exchanges_are_loads() {
+        struct Both {
+            /// The number of threads that have begun.
+            next: AtomicU64,
+            flags: [AtomicU64; 2],
+            /// The number of threads that have not seen the other.
+            blind: AtomicU64,
+            failure: Ordering,
+        }
+        let meet: fn(&Both) = |both| {
+            let mine = both.next.fetch_add(1, Ordering::Relaxed) as usize;
+            both.flags[mine].swap(1, Ordering::SeqCst);
+            let other = &both.flags[1 - mine];
+            let taken = other.compare_exchange(1, 2, Ordering::SeqCst, both.failure);
+            let blind = u64::from(taken.is_err());
+            both.blind.fetch_add(blind, Ordering::Relaxed);
+        };
+        for (failure, most) in [(Ordering::SeqCst, 1), (Ordering::Relaxed, 2)] {
+            let found = atomic::AtomicU64::new(0);
+            let test = || {
+                let both = Both {
+                    next: AtomicU64::new(0),
+                    flags: [AtomicU64::new(0), AtomicU64::new(0)],
+                    blind: AtomicU64::new(0),
+                    failure,
+                };
+                (Arc::new(both), vec![meet; 2])
+            };
+            explore(Depth::fine(2), test, |both, _| {
+                let blind = both.blind.real.load(Ordering::SeqCst);
+                found.fetch_max(blind, Ordering::SeqCst);
+            });
+            assert_eq!(found.load(Ordering::SeqCst), most);
+        }
     }
 
     /// A counter that is read and then written loses an increment in some schedule, and none by `fetch_add`.

@@ -9,24 +9,38 @@
 //! 1. *The engine executes it.* Begin, reads, writes and commit are calls like any others, made under the lock. So
 //!    everything that is promised of the engine's histories is true of these: limits, locks, serializable updates, audits.
 //!    The mirror is not trusted. The commit is sent only if each reply of the engine equals the value that the body saw
-//!    ([`Draft::judge`]); otherwise the transaction is aborted and the body runs again.
-//! 2. *The body is that transaction.* A body is a function of the values that it reads. The run that commits saw exactly the
-//!    replies in the history, so with these reads it writes the values in the history and returns the value that the caller
-//!    gets. The history omits a second read of an item (the lock would have kept the value), a read of the update's own
-//!    write, and a write that is overwritten in the same hold. No other transaction can observe these.
+//!    ([`Draft::judge`]); otherwise the transaction is aborted in the same hold, and the body runs again. If an item changed
+//!    and changed back, the replies are equal, and that is right: the history has what the body saw. Versions are compared
+//!    before the submission ([`Draft::is_stale`]), which is stricter, only to avoid submissions in vain.
+//! 2. *The body is that transaction.* The run that commits saw exactly the replies in the history, wrote the values in the
+//!    history, and returned what the caller gets. The history omits a second read of an item (the lock would have kept the
+//!    value), a read of the update's own write, and a write that is overwritten in the same hold; a last write has the place
+//!    of the first one, which may be before a read that it depends on. No other transaction can observe these, since no other
+//!    event is between begin and commit.
 //! 3. *Order.* The whole update happens within one hold during the call, so the order of the holds is a serial order that
 //!    respects real time. Updates that run step by step meet the same locks in the engine as ever.
-//! 4. *A body sees one moment.* Publications are numbered under the lock. One marks its items (odd version), stores the new
-//!    moment, and then stores values and versions. A read returns a value between two equal even versions. A version up to
-//!    the draft's moment was the value at that moment: a later publication would show its version or its mark, and an
-//!    earlier one set its mark before the moment was stored, so the read waited for it. For a newer version the moment moves
-//!    forward, if everything read before still has its version; otherwise the body is stopped with [`Error::Overtaken`]. So
-//!    not even a run that is discarded sees half of a commit, and an assertion in a body cannot fail because of one.
-//! 5. *Failures.* An error or panic of a body that was not overtaken leaves nothing to undo: the engine has not heard of it.
+//! 4. *A body sees one moment.* A commit is published in the hold in which the engine has executed it, so the mirror has
+//!    committed values only. Publications have even numbers, which grow by 2 and never repeat. One marks its items (odd
+//!    version), stores the new moment, and then stores values and versions. A read returns a value between two equal even
+//!    versions. A version up to the draft's moment was the value at that moment: a later publication would show its version
+//!    or its mark, and an earlier one set its mark before the moment was stored, so the read waited for it. For a newer
+//!    version the moment moves forward, if everything read before still has its version; otherwise the body is stopped with
+//!    [`Error::Overtaken`]. So not even a run that is discarded sees half of a commit, and an assertion in a body cannot fail
+//!    because of one. All that a body cannot know is whether its moment is still the last one.
+//! 5. *Memory orders.* The store of a moment releases the marks of its publication and, by the lock, of all earlier ones, and
+//!    each load of it by a draft acquires. So at each item a draft sees the mark of the last publication up to its moment, or
+//!    something newer. The store of a version releases its value, and the first load of a version acquires. A release fence
+//!    is between the marks and the values, and an acquire fence between the loads of the value and of the second version, so
+//!    a thread that has loaded a new value sees at least the mark.
+//! 6. *Failures.* An error or panic of a body leaves nothing to undo: the engine has not heard of it. If the body was not
+//!    overtaken, its error is the result, because it follows from values of one moment during the call. The error of a body
+//!    that was overtaken is dropped; a panic is passed on in any case, as it is if a body unwraps any other error of a read.
+//!    Neither the body nor an observer runs within the hold, so none of their panics can separate a commit from its
+//!    publication.
 //!
 //! The unit tests run reads, publications and submissions under every schedule (`interleave`), and `tests/mutants`
 //! plants the faults that this argument excludes: reads that are not compared, versions that are not checked, marks that are
-//! not set, an aborted draft that stays active.
+//! not set, orders that are too weak, values that are published without a commit, an aborted draft that stays active.
 
 use crate::{
     Error, Refusal,
@@ -74,7 +88,8 @@ impl Mirror {
         }
     }
 
-    /// Returns the value of an item and the publication that wrote it.
+    /// Returns the value of an item and the publication that wrote it. Polls while the item is marked, which takes as long as
+    /// a few stores unless the publishing thread is preempted.
     fn read(&self, item: u32) -> (u64, i64) {
         let mirrored = &self.items[item as usize];
         let mut rounds = 0_u32;
@@ -421,16 +436,18 @@ mod tests {
     /// In every schedule, and for every store that a load may observe, no reader sees half of a commit.
     #[test]
     fn no_schedule_shows_half_a_commit() {
-        let writers: [fn(&Mirror); 2] = [
-            |mirror| mirror.publish([(0, 5), (1, -5)].into_iter()),
-            |mirror| mirror.publish([(1, -7), (0, 7)].into_iter()),
-        ];
-        for writer in writers {
+        let one: fn(&Mirror) = |mirror| mirror.publish([(0, 5), (1, -5)].into_iter());
+        let backwards: fn(&Mirror) = |mirror| mirror.publish([(1, -7), (0, 7)].into_iter());
+        let two: fn(&Mirror) = |mirror| {
+            mirror.publish([(1, 0)].into_iter());
+            mirror.publish([(0, 5), (1, -5)].into_iter());
+        };
+        for (writer, switches) in [(one, 2), (backwards, 2), (two, 1)] {
             let test = || {
                 let mirror = Arc::new(Mirror::of(&[0, 0]));
                 (mirror, vec![writer, read_both as fn(&Mirror)])
             };
-            let runs = explore(Depth::fine(2), test, |_, _| {});
+            let runs = explore(Depth::fine(switches), test, |_, _| {});
             println!("{runs} schedules");
         }
     }

@@ -1,11 +1,19 @@
 //! A second engine, which replays the accepted events of the first on its own thread and audits there.
 //!
-//! An engine is deterministic, so the second reaches the state of the first, and its findings are the same. Refused events
-//! are omitted, as they change nothing. Each read has the value that the first engine returned, which is compared; when
-//! anything differs or an allocation fails, the second engine is given up, and the bank audits under its lock.
+//! An engine is deterministic, so the second reaches the state of the first, and its findings are the same. The events are
+//! logged under the bank's lock in the order in which the first engine accepted them, and an audit is one more entry of the
+//! log, so it is made at the point of the history at which it was requested. Refused events are omitted, as they change no
+//! value, lock or charge. Of a report that was carried over a renewal the reads are omitted, because it is not audited; what
+//! it was charged limits only itself and the updates that it was charged for, so other findings do not change.
+//!
+//! The second engine is not trusted blindly: each begin has the number, and each read the value, that the first engine
+//! returned. When a reply differs or is a refusal, or an allocation fails, the second engine is given up until the next
+//! renewal, and the bank audits under its lock. So it does if the thread ends by a panic: requests are then dropped, which
+//! their callers notice.
 //!
 //! The log of a history is at most 16 MB. The thread sleeps until a report begins. At a renewal without pending audits the
-//! log is dropped, and the second engine restarts from the values.
+//! log is dropped, and the second engine restarts from the values; with pending ones, the logs of both histories are kept
+//! until they are made.
 
 use crate::{Engine, Error, Finding, Txn, sys};
 use std::{
@@ -48,6 +56,7 @@ struct Queue {
     /// The number of audits among the parts.
     audits: usize,
     is_wanted: bool,
+    /// Whether the thread ends. No part is added from then on.
     is_closed: bool,
 }
 
@@ -101,7 +110,7 @@ impl Feed {
             .pop()
             .unwrap_or_else(|| Vec::with_capacity(PART + ROOM));
         let part = mem::replace(&mut self.entries, empty);
-        queue.parts.push_back(Part::Entries(part));
+        queue.add(Part::Entries(part));
     }
 
     /// Requests the audit of a committed query, at this point of the log.
@@ -109,8 +118,7 @@ impl Feed {
         self.hand_over();
         let (sender, receiver) = channel();
         let mut queue = self.between.lock();
-        queue.parts.push_back(Part::Audit(query, sender));
-        queue.audits += 1;
+        queue.add(Part::Audit(query, sender));
         queue.is_wanted = true;
         receiver
     }
@@ -125,11 +133,27 @@ impl Feed {
                 queue.keep(part);
             }
         }
-        queue.parts.push_back(Part::Renewed(values));
+        queue.add(Part::Renewed(values));
     }
 }
 
 impl Queue {
+    /// Adds a part, unless no thread will take it.
+    fn add(&mut self, part: Part) {
+        if self.is_closed {
+            return self.keep(part);
+        }
+        self.audits += usize::from(matches!(part, Part::Audit(..)));
+        self.parts.push_back(part);
+    }
+
+    /// Drops all parts and takes no more.
+    fn close(&mut self) {
+        self.is_closed = true;
+        self.audits = 0;
+        self.parts.clear();
+    }
+
     /// Keeps the memory of a used part.
     fn keep(&mut self, part: Part) {
         if let Part::Entries(mut entries) = part {
@@ -183,7 +207,7 @@ impl Twin {
 
 impl Drop for Twin {
     fn drop(&mut self) {
-        self.between.lock().is_closed = true;
+        self.between.lock().close();
         self.between.wanted.notify_one();
         if let Some(thread) = self.thread.take() {
             let _ = thread.join();
@@ -198,6 +222,13 @@ struct Auditor {
     between: Arc<Between>,
     events: Vec<sys::Event>,
     replies: Vec<sys::Reply>,
+}
+
+impl Drop for Auditor {
+    /// Lets the callers of pending audits go on without it. The thread has ended, perhaps by a panic.
+    fn drop(&mut self) {
+        self.between.lock().close();
+    }
 }
 
 impl Auditor {
@@ -271,5 +302,56 @@ impl Auditor {
         error.is_none()
             && answered == entries.len()
             && entries.iter().zip(replies.iter()).all(agrees)
+    }
+}
+
+#[cfg(test)]
+mod tests {
+    use super::*;
+    use std::{sync::mpsc::RecvTimeoutError, time::Duration};
+
+    /// Opens a second engine over one item.
+    fn opened() -> (Twin, Feed) {
+        Twin::open(&[500], &[]).expect("one item")
+    }
+
+    /// Logs an update and a report that read its work in progress, and returns the finding.
+    fn audit(twin: &Twin, feed: &mut Feed, seen: i64) -> Result<Finding, Error> {
+        feed.push(1, 1, 0, 100);
+        feed.push(3, 1, 0, 400);
+        feed.push(6, 2, 0, 100);
+        feed.push(2, 2, 0, seen);
+        feed.push(5, 1, 0, 0);
+        feed.push(4, 2, 0, 0);
+        let receiver = feed.ask(Txn(2));
+        twin.wake();
+        receiver.recv().expect("the thread runs")
+    }
+
+    /// A second engine whose replies differ is given up until the next renewal.
+    #[test]
+    fn a_second_engine_that_differs_is_given_up() {
+        let (twin, mut feed) = opened();
+        assert_eq!(audit(&twin, &mut feed, 399), Err(Error::NoMemory));
+        feed.renew(vec![500]);
+        let finding = audit(&twin, &mut feed, 400).expect("it agrees");
+        assert_eq!((finding.distance, finding.import), (100, 100));
+    }
+
+    /// If the thread ends by a panic, no caller waits for it, and nothing more is kept for it.
+    #[test]
+    fn a_panic_lets_callers_go_on() {
+        let (twin, mut feed) = opened();
+        feed.push(99, 1, 0, 0); // there is no such event, which the engine's caller does not expect
+        let pending = feed.ask(Txn(1));
+        twin.wake();
+        let later = |pending: Receiver<_>| pending.recv_timeout(Duration::from_secs(20)).err();
+        assert_eq!(later(pending), Some(RecvTimeoutError::Disconnected));
+        assert_eq!(
+            later(feed.ask(Txn(1))),
+            Some(RecvTimeoutError::Disconnected)
+        );
+        feed.renew(vec![500]);
+        assert!(twin.between.lock().parts.is_empty());
     }
 }

@@ -1,10 +1,17 @@
 //! The wait-for graph of the transactions of a bank, deadlock victims, and wake-ups.
 //!
-//! Each transaction waits for at most one other, which its last refusal named. So a ring can only appear when a transaction
-//! begins to wait, and is found by following the graph from there. The youngest transaction of a ring is the victim and is
-//! woken. A transaction that runs again keeps the age of its first attempt, so it becomes the oldest in time; before it runs
-//! again, it waits for the end of the transaction that it had waited for. Without the first rule it might be the victim
-//! forever, and without the second it would close the same ring again.
+//! Everything here is under the bank's lock. Each waiting transaction waits for one other, which its last refusal named. So a
+//! ring can only appear when a transaction begins to wait, and is found by following the graph from there. The youngest
+//! transaction of a ring is the victim and is woken. A transaction that runs again keeps the age of its first attempt, so it
+//! becomes the oldest in time; before it runs again, it waits for the end of the transaction that it had waited for. Without
+//! the first rule it might be the victim forever, and without the second it would close the same ring again.
+//!
+//! The graph is a part of the truth. Several readers may block a write, and the refusal names one of them; a transaction may
+//! be blocked by its own limit, and is then not registered; one whose blocker has ended waits for no one until it retries. A
+//! ring through an edge that is missing is found when the transaction has retried after the end of the one that it named, and
+//! otherwise ends when the time is up for which an attempt waits for one event (`patience`). A registered wait is one of the
+//! engine's, since a transaction retries only after its registration is removed, and releases its locks only at its end. So
+//! no transaction is a victim without a deadlock.
 //!
 //! A waiting thread sleeps and retries by itself after some time. It is woken earlier when the transaction it waits for has
 //! ended: at each item one thread at a time, and the next one after that has retried, since they would compete for an item
@@ -120,6 +127,11 @@ impl Waits {
     pub(crate) fn wait_of(&self, txn: Txn) -> Option<(Option<Txn>, u32)> {
         let wait = self.waiting.get(&txn);
         wait.map(|wait| (wait.blocker, wait.item))
+    }
+
+    /// Reports whether the transaction that a waiting one waited for has ended, or it is a deadlock victim.
+    pub(crate) fn may_retry(&self, txn: Txn) -> bool {
+        self.victims.contains_key(&txn) || matches!(self.wait_of(txn), Some((None, _)))
     }
 
     /// Returns the refusal of a transaction that is a deadlock victim.

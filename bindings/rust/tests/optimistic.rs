@@ -134,6 +134,26 @@ fn errors_and_panics_leave_nothing() {
     assert_eq!(metrics.aborts, 2);
 }
 
+/// An update that commits in a destructor, while another panic unwinds the thread, has not failed.
+#[test]
+fn updates_during_a_panic_are_counted_right() {
+    struct Last<'a>(&'a Bank);
+    impl Drop for Last<'_> {
+        fn drop(&mut self) {
+            let added = self.0.transact(0, |update| update.add("checking", 1));
+            assert_eq!(added, Ok(501));
+        }
+    }
+    let bank = two_accounts();
+    let caught = panic::catch_unwind(panic::AssertUnwindSafe(|| {
+        let _last = Last(&bank);
+        panic::resume_unwind(Box::new("as a program may"));
+    }));
+    assert!(caught.is_err());
+    let metrics = bank.metrics();
+    assert_eq!((metrics.updates, metrics.aborts), (1, 0));
+}
+
 /// A body that conflicts with another commit never sees values of different states, and is retried.
 #[test]
 fn an_overtaken_body_runs_anew() {
@@ -415,7 +435,8 @@ fn a_slow_update_does_not_hold_a_renewal_off() {
                 assert!(is_locked(
                     bank.transact_stepwise(0, |other| other.read("checking").map(drop))
                 ));
-                assert_eq!(bank.value("checking"), Ok(500));
+                let values = ["checking", "savings", "seen"].map(|item| bank.value(item));
+                assert_eq!(values, [Ok(500), Ok(1500), Ok(7)]);
                 assert_eq!(
                     (
                         slow.read("checking")?,
@@ -477,7 +498,7 @@ fn a_soak_loses_nothing() {
         let bank = builder.open().expect("they are within the limits");
         let end = Instant::now() + Duration::from_secs(seconds);
         let (moved, reports) = (AtomicU64::new(0), AtomicU64::new(0));
-        let slow_ones = AtomicU64::new(0);
+        let (slow_ones, exact) = (AtomicU64::new(0), AtomicU64::new(0));
         let whole = 1000 * ITEMS as i64;
         let client = |mut random: u64| {
             let mut change = [0; ITEMS];
@@ -521,6 +542,7 @@ fn a_soak_loses_nothing() {
                 let (sum, finding) = bank.report(5_000, sum).expect("its limit is never met");
                 assert!(sum.abs_diff(whole) <= finding.distance);
                 assert!(finding.distance <= finding.import);
+                exact.fetch_add(u64::from(finding.is_exact()), Ordering::Relaxed);
                 let snapshot = bank.snapshot_in_order().expect("memory");
                 assert_eq!(snapshot[..ITEMS].iter().sum::<i64>(), whole);
                 reports.fetch_add(1, Ordering::Relaxed);
@@ -566,10 +588,11 @@ fn a_soak_loses_nothing() {
         assert_eq!(metrics.updates, all);
         assert_eq!(metrics.reports, reports.load(Ordering::Relaxed));
         assert_eq!((bank.counts().unwrap().active, metrics.aborts), (0, 0));
-        let beside = if background_audits { metrics.audits } else { 0 };
+        // a report that was carried over a renewal has a bound, which needs no audit
+        let in_background = exact.into_inner() * u64::from(background_audits);
         assert_eq!(
             (metrics.background_audits, metrics.audits),
-            (beside, metrics.reports)
+            (in_background, metrics.reports)
         );
         println!(
             "{} updates, {} whole, {} reruns, {} reports, {} renewals, {} carried",

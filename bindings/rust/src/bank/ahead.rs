@@ -1,15 +1,21 @@
 //! Optimistic updates: the body runs on the mirror, and the engine executes the draft in one hold of the lock.
 //!
-//! The argument why such an update is an ordinary transaction is at the head of `mirror`.
+//! The argument why such an update is an ordinary transaction is at the head of `mirror`. This module decides what follows a
+//! run. A draft whose reads are no longer current is dropped, without a submission if that is known before, and the body runs
+//! again; after some such runs a short body gets priority for the lock, and after [`MAX_RERUNS`] the update runs step by step.
+//! A draft that meets a lock is aborted, and the body runs again after the end of the transaction that holds it, at most
+//! [`MAX_BLOCKED`] times. A draft that meets a limit or the end of the history is aborted, and the update runs step by step:
+//! in that form it can wait for the end of a report, or for a renewal. So the number of optimistic runs is bounded, and each
+//! wait spends patience.
 //!
-//! This is the default of `transact`, although it changes five things for a program. All of them are within what `transact`
-//! promised before: (a) reports no longer see the middle of such an update, so they import less, never more; work in
-//! progress that is meant to be seen is `transact_stepwise`. (b) A body runs again more often; it was required to have no
-//! other effects before, since deadlocks had the same consequence. (c) `charged` in a body is 0, and the history has no
-//! entries of a body that fails, because the engine has not heard of it. (d) A body that begins another update of the same
-//! item commits the inner one at each run; before, it waited for itself until its patience ended. Both break the rule that a
-//! body begins nothing else in its bank. (e) `add` is one read and one write of the history. In return, eight threads run
-//! about four times as many updates, and no update blocks others while its body runs.
+//! `transact` runs updates this way by default. Compared with `transact_stepwise`, a program can observe five differences,
+//! which the documentation of `transact` permits: (a) Reports do not see the middle of such an update, so they import less,
+//! never more; work in progress that is meant to be seen is `transact_stepwise`. (b) A body runs again more often; it must
+//! have no other effects in any case, since a deadlock has the same consequence. (c) `charged` in a body is 0, and the history
+//! has no entries of a body that fails, because the engine has not heard of it. (d) A body that begins another update of the
+//! same item commits the inner one at each run; step by step it waits for itself until its patience ends. Both break the rule
+//! that a body begins nothing else in its bank. (e) `add` is one read and one write of the history. In return, eight threads
+//! run about four times as many updates, and no update blocks others while its body runs.
 
 use super::{Bank, BankUpdate, Mode, state::State, watch::Watch};
 use crate::{
@@ -61,7 +67,7 @@ impl Outcome {
         let Some(refused) = refused else {
             return watch.give_up(|| Error::HistoryFull);
         };
-        watch.block(|| (**refused).clone());
+        watch.block(refused);
         watch.give_up(|| Error::Refused(refused.clone()));
     }
 }

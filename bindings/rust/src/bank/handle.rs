@@ -1,4 +1,7 @@
 //! A transaction that runs step by step: each event takes the lock for itself, so that others run in between.
+//!
+//! When an event is blocked, the thread is registered in `waits` and parks. It does not take the lock in between, because it
+//! might sleep there and consume its wake-up (`gate`). With an observer, which may use the bank, it looks once more.
 
 use super::{
     Bank, Report,
@@ -6,7 +9,7 @@ use super::{
     watch::Watch,
 };
 use crate::{
-    Error, Event, Finding, Refusal, Refused, Reply, Txn,
+    Error, Event, Finding, Refused, Reply, Txn,
     patience::{Rounds, Waiting},
     store::Place,
     waits::Holds,
@@ -45,29 +48,30 @@ impl<'a> Handle<'a> {
         let mut blocked_at = None;
         loop {
             self.bank.check_running()?;
-            let reply = events(&mut self.bank.lock());
-            match reply {
-                Ok(Reply::Refused(reason)) if reason.may_pass_later() => {
-                    if blocked_at.replace(item.get()) != Some(item.get()) {
-                        self.watch.block(|| self.describe(reason, item.get()));
-                    }
-                    if !self.waiting.pause_for_event(&mut rounds) {
-                        let refused = self.describe(reason, item.get());
+            let mut state = self.bank.lock();
+            let reply = events(&mut state);
+            // in the same hold: a renewal changes the numbers of transactions
+            let refused = self.describe(&mut state, &reply, item.get());
+            drop(state);
+            match (reply, refused) {
+                (Ok(Reply::Refused(reason)), Some(refused)) if reason.may_pass_later() => {
+                    let is_new = blocked_at.replace(item.get()) != Some(item.get());
+                    let may_retry = is_new && self.observe_block(&refused);
+                    if !may_retry && !self.waiting.pause_for_event(&mut rounds) {
                         return Err(self.stop_for(refused.into()));
                     }
                 }
-                Ok(Reply::Refused(reason)) => return Err(self.describe(reason, item.get()).into()),
-                Err(Error::Deadlock(refused)) => {
-                    let refused = self.describe(refused.reason, item.get());
+                (Ok(Reply::Refused(_)), Some(refused)) => return Err(refused.into()),
+                (Err(Error::Deadlock(_)), Some(refused)) => {
                     return Err(self.stop_for(Error::Deadlock(Box::new(refused))));
                 }
-                Err(full @ Error::HistoryFull) => match self.bank.renew_for_event() {
+                (Err(full @ Error::HistoryFull), _) => match self.bank.renew_for_event() {
                     Ok(true) => {}
                     Ok(false) => return Err(self.stop_for(full)),
                     Err(error) => return Err(self.stop_for(error)),
                 },
-                Err(error) => return Err(error),
-                accepted => {
+                (Err(error), _) => return Err(error),
+                (accepted, _) => {
                     self.me.holds = Holds::Locks;
                     return accepted;
                 }
@@ -75,9 +79,26 @@ impl<'a> Handle<'a> {
         }
     }
 
-    fn describe(&self, reason: Refusal, item: u32) -> Refused {
-        let name = self.bank.items.name(item);
-        self.bank.lock().describe(self.me, reason, name)
+    /// Describes why an event at an item is refused, if it is.
+    fn describe(
+        &self,
+        state: &mut State,
+        reply: &Result<Reply, Error>,
+        item: u32,
+    ) -> Option<Refused> {
+        let reason = match reply {
+            Ok(Reply::Refused(reason)) => *reason,
+            Err(Error::Deadlock(refused)) => refused.reason,
+            _ => return None,
+        };
+        Some(state.describe(self.me, reason, self.bank.items.name(item)))
+    }
+
+    /// Reports a blocked event to the observer, if there is one. Returns whether the event may be retried by now: this thread
+    /// may have missed its wake-up, because the observer may use the bank.
+    fn observe_block(&self, refused: &Refused) -> bool {
+        self.watch.block(refused);
+        self.watch.is_on() && self.bank.lock().may_retry(self.me)
     }
 
     fn stop_for(&mut self, error: Error) -> Error {

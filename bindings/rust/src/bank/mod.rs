@@ -123,13 +123,26 @@ pub struct Bank {
 }
 
 /// Counts a body that panics, and delays the panic until the store has what the body may have read.
-struct PanicCounter<'a>(&'a Bank);
+struct PanicCounter<'a> {
+    bank: &'a Bank,
+    /// Whether the thread was panicking before the body ran.
+    was_panicking: bool,
+}
+
+impl PanicCounter<'_> {
+    fn of(bank: &Bank) -> PanicCounter<'_> {
+        PanicCounter {
+            bank,
+            was_panicking: thread::panicking(),
+        }
+    }
+}
 
 impl Drop for PanicCounter<'_> {
     fn drop(&mut self) {
-        if thread::panicking() {
-            self.0.dropped.fetch_add(1, Ordering::Relaxed);
-            let _ = self.0.wait_for_store();
+        if thread::panicking() && !self.was_panicking {
+            self.bank.dropped.fetch_add(1, Ordering::Relaxed);
+            let _ = self.bank.wait_for_store();
         }
     }
 }
@@ -479,7 +492,7 @@ impl Bank {
         self.watched(&options, false, |watch| {
             let mut waiting = None;
             if self.is_optimistic && options.limit <= MAX_LIMIT {
-                let _counter = PanicCounter(self);
+                let _counter = PanicCounter::of(self);
                 if let Some(result) = self.run_ahead(&options, &mut waiting, &mut body, watch) {
                     return result;
                 }

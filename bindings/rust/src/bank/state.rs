@@ -203,6 +203,12 @@ impl State {
         Waiter { txn, age, holds }
     }
 
+    /// Reports whether a transaction that was blocked may retry its event, or is the victim of a deadlock.
+    pub(super) fn may_retry(&mut self, me: Me) -> bool {
+        let txn = self.active(me.handle).txn;
+        self.waits.may_retry(txn)
+    }
+
     /// Returns the charges of an active transaction over all histories.
     pub(super) fn charged(&mut self, handle: u64) -> u64 {
         let txn = self.active(handle).txn;

@@ -2,21 +2,29 @@
 
 use super::*;
 use crate::{
+    Change, Observed, Observer, Store, StoreError,
     engine::MAX_TRANSACTIONS,
     interleave::{Depth, explore},
 };
-use std::{sync::Arc, time::Duration};
+use std::{
+    sync::{Arc, Mutex},
+    time::Duration,
+};
 
 type Body = fn(&Bank);
 
 /// Within this time no timeout ends.
 const PROMPT: Duration = Duration::from_micros(400);
 
-/// Returns a bank of two accounts and a counter. Its history is due for a renewal after three transactions, of which `used` have ended, if
-/// there are any.
+/// Returns a bank of two accounts and a counter. Its history is due for a renewal after three transactions, of which `used`
+/// have ended, if there are any.
 fn bank(used: u32) -> Arc<Bank> {
+    opened(Bank::builder(), used)
+}
+
+fn opened(builder: BankBuilder, used: u32) -> Arc<Bank> {
     let items = [("a", 10), ("b", 20), ("c", 0)];
-    let builder = Bank::builder().items(items).background_audits(false);
+    let builder = builder.items(items).background_audits(false);
     let bank = builder.open().expect("three items");
     if used > 0 {
         let mut state = bank.lock();
@@ -247,4 +255,133 @@ fn renewals_of_waiting_updates() {
     );
     println!("{runs} schedules");
     assert!(both.load(Ordering::Relaxed) > 0);
+}
+
+/// With an observer a blocked update is woken too, and its refusal names the transaction that blocks it, also when a renewal
+/// follows. (No schedule of this depth has the update sleep at the lock through its wake-up.)
+#[test]
+fn observed_blocks() {
+    struct Names;
+    impl Observer for Names {
+        fn blocked(&self, transaction: &Observed<'_>, refused: &Refused) {
+            let other = match transaction.name {
+                Some("holds") => "waits",
+                _ => "holds",
+            };
+            assert_eq!(refused.other.as_deref(), Some(other), "{refused:?}");
+        }
+    }
+    let holds: Body = |bank| {
+        bank.transact_stepwise(Options::limit(0).name("holds"), |update| {
+            update.add("a", 1)?;
+            for _ in 0..2 {
+                bank.transact(0, |inner| inner.add("c", 1))?;
+            }
+            Ok(())
+        })
+        .expect("it commits");
+    };
+    let holds_shortly: Body = |bank| {
+        let options = Options::limit(0).name("holds");
+        bank.transact_stepwise(options, |update| update.add("a", 1))
+            .expect("it commits");
+    };
+    let waits: Body = |bank| {
+        let options = Options::limit(0).name("waits");
+        bank.transact_stepwise(options, |update| update.add("a", 1))
+            .expect("it commits");
+    };
+    for (used, holds, switches) in [(1, holds, 2), (0, holds_shortly, 3)] {
+        let runs = explore(
+            Depth::coarse(switches),
+            || {
+                let builder = Bank::builder().observer(Names);
+                (opened(builder, used), vec![holds, waits])
+            },
+            |bank, now| {
+                assert_eq!(values(bank), (12, 20), "an update was lost");
+                check_end(bank, now, PROMPT);
+            },
+        );
+        println!("{runs} schedules");
+    }
+}
+
+/// The value of item `a` in a store.
+#[derive(Clone, Default)]
+struct Kept(Arc<Mutex<i64>>);
+
+impl Store for Kept {
+    fn open(&mut self, items: &[(&str, i64)]) -> Result<Vec<(String, i64)>, Error> {
+        *self.0.lock().unwrap() = items[0].1;
+        let values = items.iter().map(|(name, value)| (name.to_string(), *value));
+        Ok(values.collect())
+    }
+
+    fn write(&mut self, _: u64, changes: &[Change<'_>]) -> Result<(), StoreError> {
+        for change in changes.iter().filter(|change| change.name == "a") {
+            *self.0.lock().unwrap() = change.new;
+        }
+        Ok(())
+    }
+
+    fn resolve(&mut self, _: u64) -> Result<bool, StoreError> {
+        Ok(true)
+    }
+
+    fn close(&mut self) {}
+}
+
+/// A body that fails because of a value returns its error when the store has that value: an update is in the queue of the
+/// store before another thread can see its writes.
+#[test]
+fn a_store_has_what_a_body_has_read() {
+    struct Shared {
+        bank: Bank,
+        kept: Kept,
+    }
+    enum Failed {
+        Because(i64),
+        Engine(Error),
+    }
+    impl From<Error> for Failed {
+        fn from(error: Error) -> Failed {
+            Failed::Engine(error)
+        }
+    }
+    let fails: fn(&Shared) = |shared| {
+        let body = |update: &mut BankUpdate<'_, '_>| {
+            let seen = update.read("a")?;
+            Err::<(), _>(Failed::Because(seen))
+        };
+        match shared.bank.try_transact(0, body) {
+            Err(Failed::Because(seen)) => {
+                // the value falls
+                assert!(
+                    *shared.kept.0.lock().unwrap() <= seen,
+                    "the store lacks {seen}"
+                );
+            }
+            Err(Failed::Engine(error)) => panic!("{error}"),
+            Ok(()) => unreachable!("the body fails"),
+        }
+    };
+    let whole: fn(&Shared) = |shared| shared.bank.transact(0, transfer).expect("it commits");
+    let stepwise: fn(&Shared) = |shared| {
+        let done = shared.bank.transact_stepwise(0, transfer);
+        done.expect("it commits");
+    };
+    for moves in [whole, stepwise] {
+        let test = || {
+            let kept = Kept::default();
+            let builder = Bank::builder().items([("a", 10), ("b", 20)]);
+            let builder = builder.background_audits(false).store(kept.clone());
+            let bank = builder.open().expect("two items");
+            (Arc::new(Shared { bank, kept }), vec![moves, fails])
+        };
+        let runs = explore(Depth::fine(1), test, |shared, _| {
+            assert_eq!(*shared.kept.0.lock().unwrap(), 9);
+        });
+        println!("{runs} schedules");
+    }
 }

@@ -116,9 +116,9 @@ impl Watch<'_> {
     }
 
     /// Reports that an event is blocked.
-    pub(super) fn block(&self, refused: impl FnOnce() -> Refused) {
+    pub(super) fn block(&self, refused: &Refused) {
         if let Some(watched) = &self.watched {
-            watched.observer.blocked(&watched.observed, &refused());
+            watched.observer.blocked(&watched.observed, refused);
         }
     }
 
