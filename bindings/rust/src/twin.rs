@@ -225,7 +225,7 @@ struct Auditor {
 }
 
 impl Drop for Auditor {
-    /// Lets the callers of pending audits go on without it. The thread has ended, perhaps by a panic.
+    /// Disconnects the callers of pending audits, which then audit themselves. The thread has ended, perhaps by a panic.
     fn drop(&mut self) {
         self.between.lock().close();
     }
@@ -340,7 +340,7 @@ mod tests {
 
     /// If the thread ends by a panic, no caller waits for it, and nothing more is kept for it.
     #[test]
-    fn a_panic_lets_callers_go_on() {
+    fn a_panic_disconnects_callers() {
         let (twin, mut feed) = opened();
         feed.push(99, 1, 0, 0); // there is no such event, which the engine's caller does not expect
         let pending = feed.ask(Txn(1));

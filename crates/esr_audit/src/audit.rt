@@ -27,7 +27,7 @@ use esr_items::Metric;
 use esr_order::{Index, Order};
 use std::alloc::{AllocError, Global};
 
-/// Returns the update at a position.
+/// Returns the update at a position of the list, if there is one.
 fn update_at(updates: &[TxnId], i: u32) -> Option<TxnId>
     ensures { result ≡ slice_get updates.now i }
 {
@@ -43,7 +43,7 @@ fn updates_at(alloc: Global, updates: &[TxnId], set: &[u32]) -> Result<Vec<TxnId
         .collect(alloc)
 }
 
-/// Returns a certificate of the problem, with the smallest of its closed sets of least cost and no augmentation count.
+/// Returns a certificate of the problem. Its set is the smallest closed set of least cost. Its augmentation count is `None`.
 fn certify(alloc: Global, problem: &Problem) -> Result<Certificate, NoMemory>
     ensures certifies { IfOk result (λ c. Certifies problem.now (certificate_of c)) }
     ensures least { IfOk result (λ c. IsSmallestLeastCostSet problem.now (in_set c.set.items)) }
@@ -54,8 +54,8 @@ fn certify(alloc: Global, problem: &Problem) -> Result<Certificate, NoMemory>
     Ok(certificate)
 }
 
-/// Returns a certificate of the problem, with the smallest of its closed sets of least cost. It contains the number of
-/// shortest-path augmentations that produced its flow.
+/// Returns a certificate of the problem. Its set is the smallest closed set of least cost. Its augmentation count is the
+/// number of shortest augmenting paths along which its flow was computed.
 pub fn certify_with_augmentation_count(
     alloc: Global,
     problem: &Problem,
@@ -96,10 +96,12 @@ fn finding_of<M: Metric>(
     })
 }
 
-/// Returns how far the values that a committed query read are from those that it would read at its nearest serial
-/// placement, with a certificate that no placement is nearer. The result holds for every continuation of the history. The problem has
-/// exactly the relevant updates of the query: those that wrote an item that it read, those from which a chain of conflicts
-/// leads to such an update, and, if the query is strict, those that committed before it began.
+/// Returns the distance between the values that a committed query read and those that it would read at its nearest serial
+/// placement, with a certificate that no placement is nearer. The result holds for every continuation of the history.
+///
+/// The nodes of the problem are the updates that are relevant to the query: those that wrote an item that it read, those
+/// from which a chain of conflicts leads to such an update, and, if the query is strict, those that committed before it
+/// began.
 ///
 /// # Errors
 /// `NotACommittedQuery` if and only if the transaction is not a query or has not committed. `NoMemory` if an allocation
@@ -225,7 +227,8 @@ fn compute_book<M: Metric>(alloc: Global, history: &History<M>) -> Result<Book, 
     })
 }
 
-/// A lemma: gives the proof of the caller the invariant of `History`, that its schedule is sound. Does nothing at run time.
+/// Proves for its caller that the schedule of a history is sound, which is the invariant of `History`. Does nothing at run
+/// time.
 pub fn prove_sound<M: Metric>(history: &History<M>)
     ensures { IsSound M.distance_by history.now.schedule }
 {
@@ -234,10 +237,10 @@ pub fn prove_sound<M: Metric>(history: &History<M>)
 
 /// Audits a history: returns a serial order of its committed updates, and the finding of each committed query.
 ///
-/// Each reply is the one that the machine gives. The committed updates of the history are conflict-serializable in commit
-/// order. No import and no export has exceeded its limit. For each committed query the result has the least distance between the
-/// values that it read and those of any serial placement, proved by a closed set whose cost is the value of a flow. This distance
-/// is at most the import charged. The findings hold for every continuation of the history.
+/// Each reply is that of the 2PLDC machine. The committed updates of the history are conflict-serializable in commit order.
+/// No import and no export has exceeded its limit. The finding of a committed query has the least distance between the
+/// values that it read and those of any serial placement, proved by a closed set whose cost is the value of a flow. This
+/// distance is at most the import charged. The findings hold for every continuation of the history.
 ///
 /// # Errors
 /// `NoMemory` if an allocation failed.

@@ -1,4 +1,4 @@
--- Cuts: sets of nodes that contain the source and not the sink. These definitions are of any set of nodes.
+-- The arcs that leave a set of nodes, and their capacity. A set that contains the source but not the sink is a cut.
 use Rattle.std.specs.Prelude.{◌≡◌, ℕ, ◌+◌, ◌<◌, List, [], ◌∷◌, length, Bool, true, not, ◌&&◌, ◌==◌, nat_lt, if◌then◌else◌, Option, Some, None}
 use Rattle.esr_cert.specs.Network.{Arc, arc_at}
 
@@ -10,17 +10,17 @@ leaves in_set arc = in_set arc.from && not (in_set arc.to)
 abbrev pub enters : (ℕ → Bool) → Arc → Bool
 enters in_set arc = not (in_set arc.from) && in_set arc.to
 
--- a capacity, and 0 for an infinite one (None)
+-- a capacity, or 0 if it is infinite (None)
 abbrev pub finite_capacity_or_zero : Option ℕ → ℕ
 finite_capacity_or_zero None = 0
 finite_capacity_or_zero (Some c) = c
 
--- the capacity of a cut: the sum of the capacities of the arcs that leave it
+-- the sum of the finite capacities of the arcs that leave a set; arcs of infinite capacity are not counted
 abbrev pub cut_capacity : (ℕ → Bool) → List Arc → ℕ
 cut_capacity in_set [] = 0
 cut_capacity in_set (arc ∷ arcs) = (if leaves in_set arc then finite_capacity_or_zero arc.capacity else 0) + cut_capacity in_set arcs
 
--- None is an infinite capacity
+-- a capacity is finite; None is the infinite one
 abbrev pub IsFinite : Option ℕ → Type 0
 IsFinite None = ⊥
 IsFinite (Some c) = Unit {0}
@@ -30,6 +30,6 @@ abbrev pub HasFiniteCapacity : (ℕ → Bool) → List Arc → Type 0
 HasFiniteCapacity in_set arcs =
     (i : ℕ) → i < length arcs → leaves in_set (arc_at arcs i) ≡ true → IsFinite (arc_at arcs i).capacity
 
--- adds the source, node n, to a set of updates, which are the nodes below n; no other node is in the result
+-- a set of updates, which are the nodes below n, and the source, which is node n
 abbrev pub with_source : ℕ → (ℕ → Bool) → ℕ → Bool
 with_source n in_set v = if nat_lt v n then in_set v else (v == n)

@@ -1,9 +1,9 @@
 //! Runs the blocks of a plan on one thread, one line at a time, in the order of a list of block numbers.
 //!
-//! A block is the list of lines of one session of a drive. Each entry of the list names the block that takes the next turn;
-//! in a turn a block executes one line. A blocked line is retried at the next turn of its block, up to 100 times, as in a
-//! drive. The list has one turn for each line, so each retry takes a turn that a later line needs. Lines that are left over
-//! are executed afterwards, round-robin.
+//! A block is the list of lines of one session of a drive. In a turn a block executes its next line. Each entry of the list
+//! is the number of the block that has the next turn. If a line is blocked, the block tries it again at its next turn, 100
+//! tries in all, as in a drive. A retry uses a turn of the list, so lines may be left when the list ends. They are executed
+//! afterwards, round-robin.
 
 ghost use Rattle.std.specs.Prelude.{◌≡◌, ℕ, List, [], ◌<◌, ◌≤◌, IfOk, IfNone, OnOk, length, map, slice_index_or};
 ghost use Rattle.std.specs.List.{range_with_len};
@@ -127,8 +127,8 @@ fn find_unfinished(
     None
 }
 
-/// Returns the block with the next turn of a round: the first with a line left whose index is at least `from`, or else the
-/// first of all with a line left.
+/// Returns the block that has the next turn of a round-robin: the first with a line left from index `from` on, or, if there
+/// is none, the first with a line left from index 0 on.
 fn next_in_round(
     blocks: &[Vec<Call<'_>>],
     all_progress: &[BlockProgress],
@@ -143,7 +143,7 @@ fn next_in_round(
     }
 }
 
-/// Executes the remaining lines of the blocks, in rounds.
+/// Executes the remaining lines of the blocks, round-robin.
 fn finish(
     machine: &mut Machine<Weighted>,
     blocks: &[Vec<Call<'_>>],
@@ -162,7 +162,7 @@ fn finish(
         execute_turn(machine, blocks, all_progress, block)?;
         from = block.saturating_add(1);
     }
-    // (not reached: each turn uses one of at most 100 tries of a line)
+    // (not reached: a line has at most 100 tries, and each turn uses one)
     Err(StepError::NoMemory)
 }
 
@@ -186,7 +186,7 @@ fn fault_of(error: StepError) -> DriveFault {
     }
 }
 
-/// Runs the blocks of a plan: first the turns in `order`, then the remaining lines in rounds.
+/// Runs the blocks of a plan: first the turns in `order`, then the remaining lines, round-robin.
 pub fn run_interleaving(
     alloc: Global,
     drive_plan: &DrivePlan<'_>,

@@ -1,5 +1,8 @@
-//! Summarizes one run: for each query that committed, its import and its distance; for each block, which is the list of
-//! lines of one session, how often a line was blocked, and how many lines were given up, still blocked at their last try.
+//! Summarizes one run: the import and the distance of each query that committed, and for each block how often a line was
+//! blocked and how many lines were given up.
+//!
+//! A block is the list of lines of one session. A line is given up if it was blocked at each of its 100 tries. A query is
+//! identified by the position of its begin: the number of its block, and its line in the block.
 
 ghost use Rattle.std.specs.Prelude.{◌≡◌, IfOk, map};
 ghost use Rattle.esr_explore.specs.Turns.{run_state};
@@ -62,7 +65,8 @@ fn inconsistency_of(
     }
 }
 
-/// Returns the import and the distance of each of these queries, if it committed.
+/// Returns the import and the distance of each query, or `None` for a query that did not commit. Each query is the position
+/// of its begin in the plan.
 fn all_inconsistencies(
     alloc: Global,
     run: &Run,
@@ -89,7 +93,7 @@ fn blocked_counts(alloc: Global, all_progress: &[BlockProgress]) -> Result<Vec<u
     Ok(counts)
 }
 
-/// Returns how many lines of a block were given up: those whose last reply is that they are blocked.
+/// Returns the number of lines of a block that were given up: those whose last reply is that they are blocked.
 fn given_up_in(progress: &BlockProgress) -> u64
     ensures { result ≡ given_up_in progress.now }
 {
@@ -100,7 +104,7 @@ fn given_up_in(progress: &BlockProgress) -> u64
     lost.count() as u64
 }
 
-/// Returns how many lines of each block were given up.
+/// Returns the number of lines of each block that were given up.
 fn given_up_counts(alloc: Global, all_progress: &[BlockProgress]) -> Result<Vec<u64>, AllocError>
     ensures { IfOk result (λ v. v.items ≡ map given_up_in all_progress.now) }
 {
@@ -111,7 +115,7 @@ fn given_up_counts(alloc: Global, all_progress: &[BlockProgress]) -> Result<Vec<
     Ok(counts)
 }
 
-/// Returns the summary of a run.
+/// Returns the summary of a run, with these queries of its plan.
 pub fn summarize(alloc: Global, run: &Run, queries: &[Query<'_>]) -> Result<RunSummary, AllocError>
     ensures { IfOk result (λ run_summary. IsSummaryOf (run_state run.now.history.schedule run.now.all_progress.items) queries.now run_summary) }
 {

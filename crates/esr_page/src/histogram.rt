@@ -1,4 +1,4 @@
-//! The histogram of distances: how many committed queries were exact, and how many were off by amounts of each number of digits.
+//! The histogram of distances. Its bins are the numbers of digits: the distance 0, 1 to 9, 10 to 99, and so on.
 
 use crate::audits::AuditedDistance;
 use esr_text::push_number;
@@ -30,8 +30,8 @@ fn counts_of(alloc: Global, distances: &[AuditedDistance]) -> Result<Vec<u64>, A
     Ok(counts)
 }
 
-/// Appends the range of the distances with this number of digits, of which the least is `least`. The number 0 is that of the
-/// distance 0.
+/// Appends the range of a bin: "exact" for 0 digits, otherwise from `least`, which is the least distance with this number of
+/// digits, to the greatest.
 fn push_range(out: &mut String, digits: usize, least: u64) -> Result<(), AllocError> {
     if digits == 0 {
         return out.push_str("exact");
@@ -39,7 +39,7 @@ fn push_range(out: &mut String, digits: usize, least: u64) -> Result<(), AllocEr
     out.push_str("off by ")?;
     push_number(out, least)?;
     out.push_str(" to ")?;
-    // (the numbers with 20 digits end at the greatest of 64 bits)
+    // (a distance of 20 digits is at most 2^64 - 1)
     let next = least.checked_mul(10);
     push_number(out, next.map_or(u64::MAX, |next| next.saturating_sub(1)))
 }
@@ -54,7 +54,7 @@ fn push_bar(out: &mut String, digits: usize, count: u64, max_count: u64) -> Resu
     write!(out, "<i class='{class}' style='width:{share}%'></i>")
 }
 
-/// Appends a row: the range of the distances with this number of digits, a bar and their count.
+/// Appends the row of a bin: its range, a bar and the number of distances in it.
 fn push_row(
     out: &mut String,
     digits: usize,
@@ -71,7 +71,7 @@ fn push_row(
     out.push_str("</b></span></li>\n")
 }
 
-/// Returns the number of rows: up to the greatest number of digits that occurs.
+/// Returns the number of bins up to the last that is not empty.
 fn row_count(counts: &[u64]) -> usize {
     let mut last = 0usize;
     for (digits, count) in counts.iter().enumerate() {
@@ -82,7 +82,7 @@ fn row_count(counts: &[u64]) -> usize {
     last.saturating_add(1)
 }
 
-/// Appends one row for each number of digits up to the greatest that occurs.
+/// Appends one row for each bin up to the last that is not empty.
 fn push_rows(out: &mut String, counts: &[u64]) -> Result<(), AllocError> {
     let max_count = counts.iter().copied().max().unwrap_or(0);
     let mut least = 1u64;

@@ -1,7 +1,7 @@
 //! The updates of a picture, and the arrows between them.
 
 use crate::elements::{close_text, open_centred, push_vertical};
-use crate::layout::{Layout, arch, is_straight};
+use crate::layout::{Layout, arch_height, is_straight};
 use crate::scene::{Arrow, Scene, Update};
 use std::alloc::AllocError;
 
@@ -96,7 +96,7 @@ fn push_way(
         let y = top.saturating_add(14);
         return write!(out, "M{start} {y}H{end}");
     }
-    let height = arch(arrow.from, arrow.to).saturating_add(4);
+    let height = arch_height(arrow.from, arrow.to).saturating_add(4);
     let start = from.saturating_add(12);
     let end = to.saturating_sub(12);
     push_arch(out, start, end, top, top.saturating_sub(height))

@@ -1,6 +1,7 @@
 //! The head of a picture: its size, a description for screen readers, and its colours. The colours are in a `<style>`
-//! with `prefers-color-scheme`, and the picture has a background, so that it is legible in any page. Green parts are
-//! also thick, and reads that differ from the value at the query's place have a circle and a text, for readers who do not see colours.
+//! with `prefers-color-scheme`, and the picture has a background, so that it is legible in any page. For readers who do
+//! not see colours, green parts are also thick, and reads that differ from the value at the query's place have a circle
+//! and a text.
 
 use crate::elements::push_text;
 use crate::layout::{ERROR_LINE_HEIGHT, Layout, MARGIN, SENTENCE_LINE_HEIGHT};
@@ -13,10 +14,10 @@ use std::alloc::AllocError;
 /// pictures small.
 ///
 /// Texts: `m` monospaced, `h` heading, `n` bold, `q` muted, `g` exact or good, `r` off or an error, `o` with a halo.
-/// Boxes of updates: `b` before the line, `a` after it, `e` must be before it. Lanes: `v` a version, `u` a version that
-/// the query read, `y` a version read 2 to 9 times, `z` one read 10 times or more, `s` several versions or a transient read, `t` a
-/// write, `j` the track of a bar and `i` its filled part, `c` a read that is off. Others: `l` the line, `d` a guide,
-/// `w` an arrow, `k` its head, `p` the background, `x` the box of errors.
+/// Boxes of updates: `b` before the query's line, `a` after it, `e` must be before it. Lanes: `v` a version, `u` a version
+/// that the query read, `y` a version read 2 to 9 times, `z` one read 10 times or more, `s` several versions or a transient
+/// read, `t` a write, `j` the bar of an item's share of the distance and `i` its filled part, `c` a read that is off.
+/// Others: `l` the query's line, `d` a guide, `w` an arrow, `k` its head, `p` the background, `x` the box of errors.
 const STYLE: &str = "<style>\n\
 text{font:12px sans-serif;fill:#1f2328}\n\
 .m{font:13px Menlo,Consolas,'DejaVu Sans Mono',monospace}\n\
@@ -59,11 +60,11 @@ pub fn push_attributes(
 ) -> Result<(), AllocError> {
     let query_name = scene.query_name;
     let width = layout.width;
-    let height = layout.height();
-    let error_box_height = layout.error_box_height();
-    let total_height = height.saturating_add(error_box_height);
+    let height = layout.height_below_origin();
+    let height_above_origin = layout.height_above_origin();
+    let total_height = height.saturating_add(height_above_origin);
     out.push_str(" xmlns='http://www.w3.org/2000/svg' viewBox='0 ")?;
-    push_y_above_origin(out, error_box_height)?;
+    push_y_above_origin(out, height_above_origin)?;
     write!(out, " {width} {total_height}'")?;
     write!(out, " width='{width}' height='{total_height}' role='img'")?;
     write!(
@@ -72,7 +73,7 @@ pub fn push_attributes(
     )
 }
 
-/// Appends the y coordinate of a point at this distance above the origin: its negative.
+/// Appends the y coordinate of a point `distance` above the origin. It is the negative of the distance.
 fn push_y_above_origin(out: &mut String, distance: u32) -> Result<(), AllocError> {
     if distance > 0 {
         out.push('-')?;
@@ -80,7 +81,7 @@ fn push_y_above_origin(out: &mut String, distance: u32) -> Result<(), AllocError
     write!(out, "{distance}")
 }
 
-/// Appends the names of the updates before the line, for the description.
+/// Appends the names of the updates before the query, for the description.
 fn push_earlier(
     out: &mut String,
     updates: &[Update<'_>],
@@ -95,7 +96,7 @@ fn push_earlier(
     Ok(())
 }
 
-/// Appends the names of the updates after the line.
+/// Appends the names of the updates after the query, for the description.
 fn push_later(out: &mut String, updates: &[Update<'_>], query_slot: u8) -> Result<(), AllocError> {
     for update in updates {
         if update.slot > query_slot {
@@ -106,7 +107,7 @@ fn push_later(out: &mut String, updates: &[Update<'_>], query_slot: u8) -> Resul
     Ok(())
 }
 
-/// Appends the order of the updates and the line, for the description.
+/// Appends the serial order of the updates and the query, for the description.
 fn push_order(
     out: &mut String,
     query_name: &str,
@@ -152,7 +153,7 @@ fn push_reads(out: &mut String, lanes: &[Lane<'_>]) -> Result<(), AllocError> {
     Ok(())
 }
 
-/// Appends the title, and opens the description, which begins with distance and import. The caller closes it.
+/// Appends the title, the start tag of the description, and the distance and the import. The caller closes the description.
 fn open_description(
     out: &mut String,
     query_name: &str,
@@ -190,24 +191,24 @@ fn push_arrowhead(out: &mut String, query_name: &str) -> Result<(), AllocError> 
 /// Appends the title and the description, the style sheet, the arrowhead, the background and the box of errors.
 pub fn push_head(out: &mut String, scene: &Scene<'_>, layout: &Layout) -> Result<(), AllocError> {
     let width = layout.width;
-    let height = layout.height();
+    let height = layout.height_below_origin();
     out.push('\n')?;
     push_description(out, scene)?;
     out.push_str(STYLE)?;
     push_arrowhead(out, scene.query_name)?;
-    let error_box_height = layout.error_box_height();
-    if error_box_height == 0 {
+    let height_above_origin = layout.height_above_origin();
+    if height_above_origin == 0 {
         return write!(
             out,
             "<rect class='p' width='{width}' height='{height}' rx='8'/>\n"
         );
     }
-    let total_height = height.saturating_add(error_box_height);
+    let total_height = height.saturating_add(height_above_origin);
     write!(
         out,
-        "<rect class='p' y='-{error_box_height}' width='{width}' height='{total_height}' rx='8'/>\n"
+        "<rect class='p' y='-{height_above_origin}' width='{width}' height='{total_height}' rx='8'/>\n"
     )?;
-    push_errors(out, &layout.texts.errors, width, error_box_height)
+    push_errors(out, &layout.texts.errors, width, height_above_origin)
 }
 
 /// Appends a line in the box of errors, with its baseline `height` pixels above the origin. A continuation line is indented.
@@ -227,16 +228,16 @@ fn push_errors(
     out: &mut String,
     errors: &[ErrorLine],
     width: u32,
-    error_box_height: u32,
+    height_above_origin: u32,
 ) -> Result<(), AllocError> {
-    let top = error_box_height.saturating_sub(8);
+    let top = height_above_origin.saturating_sub(8);
     let inner = width.saturating_sub(20);
-    let box_height = error_box_height.saturating_sub(10);
+    let box_height = height_above_origin.saturating_sub(10);
     write!(
         out,
         "<rect class='x' x='10' y='-{top}' width='{inner}' height='{box_height}' rx='6'/>\n"
     )?;
-    let mut height = error_box_height.saturating_sub(24);
+    let mut height = height_above_origin.saturating_sub(24);
     for error in errors {
         push_error(out, error, height)?;
         height = height.saturating_sub(ERROR_LINE_HEIGHT);

@@ -294,10 +294,10 @@ fn open_at_line(
     class: &str,
     x: u32,
     y: u32,
-    is_text_left_of_line: bool,
+    is_left_of_line: bool,
 ) -> Result<(), AllocError> {
     let y = y.saturating_add(24);
-    if is_text_left_of_line {
+    if is_left_of_line {
         open_before(out, class, x.saturating_sub(10), y)
     } else {
         open_text(out, class, x.saturating_add(10), y)
@@ -313,13 +313,13 @@ fn push_crossing(
     layout: &Layout,
 ) -> Result<(), AllocError> {
     let x = layout.x(query_slot);
-    let is_text_left_of_line = layout.is_text_left_of_line(query_slot);
+    let is_left_of_line = layout.are_differences_left_of_line(query_slot);
     if lane.off == 0 {
-        open_at_line(out, "m g o", x, y, is_text_left_of_line)?;
+        open_at_line(out, "m g o", x, y, is_left_of_line)?;
         return out.push_str("as read</text>\n");
     }
     write!(out, "<circle class='c' cx='{x}' cy='{y}' r='5'/>")?;
-    open_at_line(out, "m r o", x, y, is_text_left_of_line)?;
+    open_at_line(out, "m r o", x, y, is_left_of_line)?;
     let has_weight_note = layout.has_space_for_weights(query_slot);
     push_off(out, lane.off, lane.weight, has_weight_note)
 }

@@ -1,4 +1,7 @@
 //! The layout of a picture: the places and sizes of its parts, in pixels, and its sentences, wrapped to its width.
+//!
+//! The query's line is the vertical line at the place of the query in the serial order. A transient read returned a value
+//! that is never committed: its writer aborted, or wrote the item again (the dirty and intermediate reads of Adya, 1999).
 
 use crate::keys::count_rows;
 use crate::scene::{Arrow, Lane, MAX_LANES, Scene};
@@ -9,8 +12,8 @@ use crate::widths::{
 };
 use std::alloc::{AllocError, Global};
 
-/// The width that a picture should not exceed. It is exceeded if the slots of the updates, which the caller limits by
-/// [`updates_to_keep`], or a word that cannot be wrapped need more.
+/// The width that a picture exceeds only if the slots of the updates, which the caller limits by [`updates_to_keep`], or a
+/// word that cannot be wrapped need more.
 const PREFERRED_MAX_WIDTH: u32 = 1100;
 
 /// The minimum width of a picture.
@@ -63,11 +66,11 @@ pub struct Layout {
     pub transient_read_lines: TransientReadLineCount,
     /// Whether the weight of some item is above 1.
     has_weights: bool,
-    /// The height of the highest arrow that arches over boxes.
+    /// The height of the highest arrow that arches over other boxes.
     max_arch_height: u32,
     lane_count: u8,
     legend_rows: u32,
-    /// The width of the widest difference, which is written at the line.
+    /// The width of the widest difference, which is written next to the query's line.
     difference_width: u32,
     /// The width of the widest difference with the weight of its item.
     weighted_difference_width: u32,
@@ -116,8 +119,9 @@ fn max_widths(lanes: &[Lane<'_>]) -> MaxWidths {
     widths
 }
 
-/// Returns the height of the arch of an arrow over the boxes between its ends, or 0 if no box is between.
-pub fn arch(from: u8, to: u8) -> u32 {
+/// Returns the height of an arrow between two slots, which grows with the number of slots between them, or 0 if the slots
+/// are adjacent.
+pub fn arch_height(from: u8, to: u8) -> u32 {
     let span = to.saturating_sub(from);
     if span < 2 {
         return 0;
@@ -125,50 +129,51 @@ pub fn arch(from: u8, to: u8) -> u32 {
     u32::from(span).saturating_mul(8).saturating_add(10).min(90)
 }
 
-/// Returns whether an arrow leads from a box to the next one, possibly across the slot of the query.
+/// Returns whether an arrow leads from a box to the next box. Between the two there may be the slot of the query.
 pub fn is_straight(from: u8, to: u8, query_slot: u8) -> bool {
     let span = to.saturating_sub(from);
     span < 2 || (span == 2 && to == query_slot.saturating_add(1))
 }
 
-/// Returns the height of the highest arrow that arches over boxes.
+/// Returns the height of the highest arrow that arches over other boxes.
 fn max_arch_height(arrows: &[Arrow], query_slot: u8) -> u32 {
     let mut highest = 0u32;
     for arrow in arrows {
         if !is_straight(arrow.from, arrow.to, query_slot) {
-            highest = highest.max(arch(arrow.from, arrow.to));
+            highest = highest.max(arch_height(arrow.from, arrow.to));
         }
     }
     highest
 }
 
-/// Returns whether a text of this width fits to the right of `x` in the widest picture.
-fn fits_after(x: u32, width: u32) -> bool {
+/// Returns whether a text of this width fits between `x` and the preferred maximum width.
+fn fits_preferred_width(x: u32, width: u32) -> bool {
     x.saturating_add(width).saturating_add(30) <= PREFERRED_MAX_WIDTH
 }
 
-/// Returns the space that the differences need to the right of the line at `x`, or 0 if they are written to its left.
+/// Returns the width that the differences need to the right of the query's line, which is at `x`, or 0 if they are written
+/// to its left.
 fn width_right_of_line(x: u32, widths: MaxWidths) -> u32 {
-    if fits_after(x, widths.weighted_difference) {
+    if fits_preferred_width(x, widths.weighted_difference) {
         widths.weighted_difference
-    } else if fits_after(x, widths.difference) {
+    } else if fits_preferred_width(x, widths.difference) {
         widths.difference
     } else {
         0
     }
 }
 
-/// Returns half the width of the name of the query, which is written below the line.
+/// Returns half the width of the name of the query, which is centred below the query's line.
 fn half_name_width(query_name: &str) -> u32 {
     width_of(query_name.len()) / 2
 }
 
-/// Returns the width that the lanes, the text at the line and the name of the query need. The name does not make a
-/// picture wider than [`PREFERRED_MAX_WIDTH`]: if there is no space for half of it to the right of the line, it is shifted to the
-/// left.
+/// Returns the width that the lanes, the texts about transient reads, the differences and the name of the query need, at
+/// least [`MIN_WIDTH`]. The name alone makes no picture wider than [`PREFERRED_MAX_WIDTH`], since [`Layout::name_x`] shifts
+/// it to the left.
 fn needed_width(scene: &Scene<'_>, slots: &Slots, widths: MaxWidths) -> u32 {
     let x = slots.x(scene.query_slot);
-    let at_line = x
+    let differences = x
         .saturating_add(width_right_of_line(x, widths))
         .saturating_add(30);
     let name = x
@@ -183,7 +188,7 @@ fn needed_width(scene: &Scene<'_>, slots: &Slots, widths: MaxWidths) -> u32 {
         .end()
         .max(transient_reads)
         .saturating_add(MARGIN)
-        .max(at_line)
+        .max(differences)
         .max(name)
         .max(MIN_WIDTH)
 }
@@ -242,7 +247,8 @@ impl Layout {
         self.slots.end()
     }
 
-    /// Returns the middle of the name of the query: at the line, or to its left if the name would be past the edge.
+    /// Returns the middle of the name of the query: the x coordinate of the query's line, or less if the name would
+    /// otherwise pass the right edge.
     pub fn name_x(&self, query_name: &str, query_slot: u8) -> u32 {
         let last = self
             .width
@@ -299,20 +305,22 @@ impl Layout {
             .saturating_add(self.pitch().saturating_mul(u32::from(self.lane_count)))
     }
 
-    /// Returns whether there is space to the right of the line for the differences with their weights.
+    /// Returns whether the differences with their weights fit between the query's line and the preferred maximum width.
     pub fn has_space_for_weights(&self, query_slot: u8) -> bool {
-        fits_after(self.x(query_slot), self.weighted_difference_width)
+        fits_preferred_width(self.x(query_slot), self.weighted_difference_width)
     }
 
-    /// Returns whether the differences are written to the left of the line, because there is no space to its right even
-    /// without weights.
-    pub fn is_text_left_of_line(&self, query_slot: u8) -> bool {
+    /// Returns whether the differences are written to the left of the query's line, because they do not fit to its right
+    /// even without weights.
+    pub fn are_differences_left_of_line(&self, query_slot: u8) -> bool {
         let x = self.x(query_slot);
-        !fits_after(x, self.weighted_difference_width) && !fits_after(x, self.difference_width)
+        !fits_preferred_width(x, self.weighted_difference_width)
+            && !fits_preferred_width(x, self.difference_width)
     }
 
-    /// Returns the height of the box that lists the lines with errors, or 0 if there is none.
-    pub fn error_box_height(&self) -> u32 {
+    /// Returns the height of the picture above the origin, where the box that lists the lines with errors is, or 0 if no
+    /// line has an error.
+    pub fn height_above_origin(&self) -> u32 {
         if self.texts.errors.is_empty() {
             return 0;
         }
@@ -327,14 +335,14 @@ impl Layout {
             .saturating_add(lines_height(&self.texts.others, SENTENCE_LINE_HEIGHT))
     }
 
-    /// Returns the height of the picture.
-    pub fn height(&self) -> u32 {
+    /// Returns the height of the picture below the origin: all but the box of errors.
+    pub fn height_below_origin(&self) -> u32 {
         self.legend_baseline()
             .saturating_add(LEGEND_ROW_HEIGHT.saturating_mul(self.legend_rows))
     }
 }
 
-/// Returns the height of lines of text, given the height of one.
+/// Returns the height of lines of text, given the distance from line to line.
 fn lines_height(lines: &[String], line_height: u32) -> u32 {
     (lines.len().min(1000) as u32).saturating_mul(line_height)
 }

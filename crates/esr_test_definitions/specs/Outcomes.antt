@@ -1,4 +1,4 @@
--- A history by its events, and its outcome by the definitions: the replies, the charges, and the audits.
+-- An input of the machine, and its outcome by the definitions: the replies, the charges, and the audits.
 use Rattle.std.specs.Prelude.{ℕ, ℤ, List, [], ◌∷◌, filter, map, if◌then◌else◌}
 use Rattle.esr_items.specs.Weights.{weighted}
 use Rattle.esr_history.specs.declared.event.Event.{Event}
@@ -8,14 +8,14 @@ use Rattle.esr_history.specs.Machine.{Schedule, accepted_in, charges_in, export_
 use Rattle.esr_history.specs.Queries.{is_committed_query}
 use Rattle.esr_order.specs.Least.{least_distance, nearest_placement}
 
--- the opening values, the weights and the events of a history
-pub record History : Type 0 where
+-- the opening values and the weights of the items, and the events that are executed
+pub record Input : Type 0 where
   pub opening : List ℤ
   pub weights : List ℕ
   pub events : List Event
 
-abbrev pub history : List ℤ → List ℕ → List Event → History
-history opening weights events = record { opening = opening; weights = weights; events = events }
+abbrev pub input : List ℤ → List ℕ → List Event → Input
+input opening weights events = record { opening = opening; weights = weights; events = events }
 
 -- the audit of a committed query
 pub record Audit : Type 0 where
@@ -52,5 +52,5 @@ outcome_in h =
     outcome (map (λ e. e.reply) h.entries) (map (charge_of h) (txn_numbers (accepted_in h)))
     (map (audit_of h) (filter (is_committed_query h) (txn_numbers (accepted_in h))))
 
-abbrev pub outcome_of : History → Outcome
+abbrev pub outcome_of : Input → Outcome
 outcome_of p = outcome_in (after (schedule_of p.opening p.weights []) p.events)

@@ -5,8 +5,8 @@ use esr_drive::{DriveOutput, drive};
 use esr_history::Watched;
 use esr_lint::Unobserved;
 
-/// No clause of a contract states it. A drive that executed one block after another would never end: the first block waits
-/// at the gate for the second.
+/// No contract states this. Both blocks wait at the gate until the other one is there too, so a drive that executed one
+/// block after another would never end.
 #[test]
 fn two_blocks_run_concurrently(rt: HostRuntime) {
     let gate = Meeting::new();
