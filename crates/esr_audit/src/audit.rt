@@ -1,7 +1,8 @@
 //! Audits of one committed query, and of every committed query of a history.
 //!
 //! A finding contains the closure problem that was solved, so anyone can check its certificate. An audit fails only if the
-//! transaction is not a committed query or if an allocation fails: the limits on histories guarantee that the problem is valid.
+//! transaction is not a committed query or if an allocation fails: the limits on histories guarantee that the problem is
+//! valid.
 ghost use Rattle.std.specs.Prelude.{◌≡◌, ◌↔◌, false, List, None, map, All, IfOk, IfErr, IsErrOf, IsTrue, filter_map, slice_get};
 ghost use Rattle.esr_history.specs.declared.event.Entry.{Entry};
 ghost use Rattle.esr_history.specs.Legal.{continued};
