@@ -272,9 +272,15 @@ fn do_task<
             script: true,
         } => drive_file(rt, console, source, input, DriveOutput::Script),
         Task::Drive {
-            workers,
+            workers: audit_workers,
             script: false,
-        } => drive_file(rt, console, source, input, DriveOutput::Text { workers }),
+        } => drive_file(
+            rt,
+            console,
+            source,
+            input,
+            DriveOutput::Text { audit_workers },
+        ),
         Task::Explore { seeds, all, worst } => match search_of(
             seeds,
             all,

@@ -82,7 +82,7 @@ fn finding_of<M: Metric>(
     ensures query { IfOk result (λ f. f.query ≡ q) }
     ensures finding { IfOk result (IsFindingOf M.distance_by history.now.schedule q.0) }
 {
-    let _invariant = history.log(); // a call that returns the invariant, which brings it into the proof
+    let _invariant = history.log(); // called for its contract: it states the invariant
     let import = history.import(q);
     let problem = problem_of(alloc, history, order, q)?;
     let certificate = certify(alloc, &problem)?;
@@ -102,7 +102,7 @@ fn finding_of<M: Metric>(
 ///
 /// The nodes of the problem are the updates that are relevant to the query: those that wrote an item that it read, those
 /// from which a chain of conflicts leads to such an update, and, if the query is strict, those that committed before it
-/// began.
+/// began, since a strict query is placed after these.
 ///
 /// # Errors
 /// `NotACommittedQuery` if and only if the transaction is not a query or has not committed. `NoMemory` if an allocation
@@ -121,7 +121,7 @@ pub fn audit_query<M: Metric>(
         → IsAnswer M.distance_by (continued history.now.schedule rest) q.0 f.distance f.import
         (map (λ t. t.0) f.before.items)) }
 {
-    let _invariant = history.log(); // a call that returns the invariant, which brings it into the proof
+    let _invariant = history.log(); // called for its contract: it states the invariant
     let order = Order::relevant(alloc, history, q)?;
     Ok(finding_of(alloc, history, order, q)?)
 }
@@ -170,7 +170,7 @@ pub fn audit_query_with_index<M: Metric>(
     Ok(finding_of(alloc, history, order, q)?)
 }
 
-/// Audits a committed query, given the list of all committed transactions.
+/// Like `audit_query_with_commits`, for a transaction that is a committed query: fails only if an allocation fails.
 fn finding_from_commits<M: Metric>(
     alloc: Global,
     history: &History<M>,
@@ -233,15 +233,15 @@ fn compute_book<M: Metric>(alloc: Global, history: &History<M>) -> Result<Book, 
 pub fn prove_sound<M: Metric>(history: &History<M>)
     ensures { IsSound M.distance_by history.now.schedule }
 {
-    let _invariant = history.log(); // a call that returns the invariant, which brings it into the proof
+    let _invariant = history.log(); // called for its contract: it states the invariant
 }
 
 /// Audits a history: returns a serial order of its committed updates, and the finding of each committed query.
 ///
-/// Each reply is that of the 2PLDC machine. The committed updates of the history are conflict-serializable in commit order.
-/// No import and no export has exceeded its limit. The finding of a committed query has the least distance between the
-/// values that it read and those of any serial placement, proved by a closed set whose cost is the value of a flow. This
-/// distance is at most the import charged. The findings hold for every continuation of the history.
+/// Each reply is the one that the specification of the machine (`reply_to`) gives. The committed updates of the history are
+/// conflict-serializable in commit order. No import and no export has exceeded its limit. The distance in a finding is the
+/// minimum over all serial placements of the query, proved by a closed set and a flow of equal worth. It is at most the
+/// import charged. The findings hold for every continuation of the history.
 ///
 /// # Errors
 /// `NoMemory` if an allocation failed.

@@ -153,7 +153,9 @@ fn text_from<R: Threads + Sync>(
         (all_answers (map (λ b. b.items) drive_plan.now.blocks.items) (map (λ r. r.items) driven.now.replies.items)) out.items) }
 {
     match form {
-        DriveOutput::Text { workers } => answers_from(rt, alloc, workers, drive_plan, driven),
+        DriveOutput::Text { audit_workers } => {
+            answers_from(rt, alloc, audit_workers, drive_plan, driven)
+        }
         DriveOutput::Script => script_from(alloc, drive_plan, driven),
     }
 }

@@ -108,7 +108,7 @@ fn new_progress(alloc: Global, count: usize) -> Result<Vec<BlockProgress>, Alloc
     Ok(all_progress)
 }
 
-/// Returns the first block with a line left whose index is at least `from`.
+/// Returns the first block, at index `from` or later, that has a line left.
 fn find_unfinished(
     blocks: &[Vec<Call<'_>>],
     all_progress: &[BlockProgress],
@@ -127,8 +127,8 @@ fn find_unfinished(
     None
 }
 
-/// Returns the block that has the next turn of a round-robin: the first with a line left from index `from` on, or, if there
-/// is none, the first with a line left from index 0 on.
+/// Returns the block that has the next turn of a round-robin: the first with a line left at index `from` or later, or else
+/// the first with a line left.
 fn next_in_round(
     blocks: &[Vec<Call<'_>>],
     all_progress: &[BlockProgress],
@@ -178,7 +178,7 @@ fn machine_of(alloc: Global, drive_plan: &DrivePlan<'_>) -> Result<Machine<Weigh
     Ok(machine)
 }
 
-/// Converts the error of a step to a fault of a drive.
+/// Converts the error of a step to the error of a drive.
 fn fault_of(error: StepError) -> DriveFault {
     match error {
         StepError::HistoryFull => DriveFault::HistoryFull,

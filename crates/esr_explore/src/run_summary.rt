@@ -1,5 +1,5 @@
-//! Summarizes one run: the import and the distance of each query that committed, and for each block how often a line was
-//! blocked and how many lines were given up.
+//! Summarizes one run: the import and the distance of each query that committed, and for each block how many tries of its
+//! lines were blocked and how many lines were given up.
 //!
 //! A block is the list of lines of one session. A line is given up if it was blocked at each of its 100 tries. A query is
 //! identified by the position of its begin: the number of its block, and its line in the block.
@@ -65,8 +65,8 @@ fn inconsistency_of(
     }
 }
 
-/// Returns the import and the distance of each query, or `None` for a query that did not commit. Each query is the position
-/// of its begin in the plan.
+/// Returns the import and the distance of each query, or `None` if it did not commit. A `Query` has the position of the
+/// query's begin in the plan.
 fn all_inconsistencies(
     alloc: Global,
     run: &Run,

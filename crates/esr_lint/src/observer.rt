@@ -71,11 +71,11 @@ pub trait Observer {
     fn see_end(&mut self);
 }
 
-/// Sees nothing.
+/// An observer that ignores what it is shown.
 #[derive(Drop)]
-pub struct Unobserved;
+pub struct NoObserver;
 
-impl Observer for Unobserved {
+impl Observer for NoObserver {
     fn see_line(&mut self, _number: u64, _line: &[u8], _outcome: LineOutcome) {}
 
     fn see_transaction(&mut self, _name: &str, _status: TxnSummary) {}

@@ -50,6 +50,7 @@ fn push_bar(out: &mut String, digits: usize, count: u64, max_count: u64) -> Resu
         return Ok(());
     }
     let share = count.saturating_mul(80).checked_div(max_count).unwrap_or(0);
+    // (the colours of charges and of distances)
     let class = if digits == 0 { "chg" } else { "dis" };
     write!(out, "<i class='{class}' style='width:{share}%'></i>")
 }

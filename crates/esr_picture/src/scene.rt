@@ -52,8 +52,8 @@ impl Extent {
     }
 }
 
-/// Returns how many lanes that are not drawn are off, and by how much together.
-fn others_off(choice: &Choice) -> (usize, u64) {
+/// Returns the number of lanes that are not drawn and differ from their reads, and the sum of these differences.
+fn omitted_difference(choice: &Choice) -> (usize, u64) {
     let mut count = 0usize;
     let mut sum = 0u64;
     for (lane, crossing) in choice.crossings.iter().enumerate() {
@@ -188,7 +188,7 @@ impl<'a, 'b> SceneParts<'a, 'b> {
         chain: &Chain,
         segments: Vec<LaneSegment>,
         read: LaneReads,
-        off: u64,
+        difference: u64,
     ) -> Result<Lane<'a>, AllocError> {
         let audited = self.source.audited;
         let drawn = versions_drawn(alloc, &segments)?;
@@ -196,7 +196,7 @@ impl<'a, 'b> SceneParts<'a, 'b> {
             name: audited.items.name_of(chain.item.0).unwrap_or(""),
             weight: audited.history.metric().distance(chain.item, 0, 1),
             read,
-            off,
+            difference,
             segments,
             transient_reads: transient_reads_of(audited, self.source.trace, chain, &drawn),
         })
@@ -221,17 +221,17 @@ impl<'a, 'b> SceneParts<'a, 'b> {
         versions.segments(alloc, &self.slots)
     }
 
-    /// Returns a lane of a chain, whose version at the line is off by `off`.
+    /// Returns the lane of a chain, whose reads differ by `difference` from the version at the line.
     fn lane(
         &self,
         alloc: Global,
         chain: &Chain,
         at_line: usize,
-        off: u64,
+        difference: u64,
     ) -> Result<Lane<'a>, AllocError> {
         let segments = self.segments(alloc, chain, at_line)?;
         let read = self.reads(alloc, chain)?;
-        self.lane_with(alloc, chain, segments, read, off)
+        self.lane_with(alloc, chain, segments, read, difference)
     }
 
     /// Adds the lane of the chain at a position.
@@ -346,7 +346,7 @@ impl<'a, 'b> SceneParts<'a, 'b> {
     fn numbers(&self, alloc: Global) -> Scene<'a> {
         let audited = self.source.audited;
         let finding = audited.finding;
-        let (others_off, others_sum) = others_off(&self.choice);
+        let (omitted_items_off, omitted_difference) = omitted_difference(&self.choice);
         let lanes = self.choice.lanes.len();
         let without_lane = self.choice.crossings.len().saturating_sub(lanes);
         let committed = self.source.trace.committed;
@@ -358,10 +358,10 @@ impl<'a, 'b> SceneParts<'a, 'b> {
             sentences: Vec::new(alloc),
             arrows: Vec::new(alloc),
             unwritten_items: self.choice.unwritten,
-            other_updates: committed.saturating_sub(self.drawn.len() as u64),
-            other_items: without_lane.saturating_sub(self.choice.unwritten),
-            others_off,
-            others_sum,
+            omitted_updates: committed.saturating_sub(self.drawn.len() as u64),
+            omitted_items: without_lane.saturating_sub(self.choice.unwritten),
+            omitted_items_off,
+            omitted_difference,
             deciding: Deciding {
                 names: Vec::new(alloc),
                 count: 0,

@@ -4,7 +4,7 @@ use crate::case::{Operation, case_of, without_strangers};
 use crate::search::Search;
 use crate::text::script_of;
 use esr_history::{TxnId, Watched};
-use esr_lint::Unobserved;
+use esr_lint::NoObserver;
 use esr_script::{RunFault, ask};
 use esr_views::{Recording, ScriptView};
 use std::alloc::{AllocError, Global};
@@ -40,7 +40,7 @@ fn is_confirmed(
     at_least: u64,
 ) -> Result<bool, AllocError> {
     let mut reader = Watched::new(script);
-    match ask(alloc, &mut reader, name, &mut Unobserved) {
+    match ask(alloc, &mut reader, name, &mut NoObserver) {
         Ok(audited) => Ok(audited.finding.distance >= at_least),
         Err(RunFault::NoMemory) => Err(AllocError),
         Err(_) => Ok(false),

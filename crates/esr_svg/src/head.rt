@@ -11,13 +11,14 @@ use esr_text::{first, push_number, push_sanitized, push_value};
 use std::alloc::AllocError;
 
 /// The style sheet. Pictures and timelines share a page, so the names of their classes must differ. Short names keep large
-/// pictures small.
+/// pictures small. A version is a stretch of a lane in which the item has one committed value.
 ///
-/// Texts: `m` monospaced, `h` heading, `n` bold, `q` muted, `g` exact or good, `r` off or an error, `o` with a halo.
-/// Boxes of updates: `b` before the query's line, `a` after it, `e` must be before it. Lanes: `v` a version, `u` a version
-/// that the query read, `y` a version read 2 to 9 times, `z` one read 10 times or more, `s` several versions or a transient
-/// read, `t` a write, `j` the bar of an item's share of the distance and `i` its filled part, `c` a read that is off.
-/// Others: `l` the query's line, `d` a guide, `w` an arrow, `k` its head, `p` the background, `x` the box of errors.
+/// Texts: `m` monospaced, `h` heading, `n` bold, `q` muted, `g` as read, `r` off or an error, `o` with a halo. Boxes of
+/// updates: `b` before the query's line, `a` after it, `e` (with `b`) before it in every placement. Lanes: `v` a version,
+/// `u` a version that the query read, `y` a version read 2 to 9 times, `z` one read 10 times or more, `s` several versions or
+/// a transient read, `t` a write, `j` the bar of an item's share of the distance and `i` its filled part, `c` a read that is
+/// off. Others: `l` the query's line, `d` a dotted line from a box to its lanes, `w` an arrow, `k` its head, `p` the
+/// background, `x` the box of errors.
 const STYLE: &str = "<style>\n\
 text{font:12px sans-serif;fill:#1f2328}\n\
 .m{font:13px Menlo,Consolas,'DejaVu Sans Mono',monospace}\n\
@@ -148,7 +149,7 @@ fn push_reads(out: &mut String, lanes: &[Lane<'_>]) -> Result<(), AllocError> {
         let name = lane.name;
         write!(out, " {name}:")?;
         push_values(out, &lane.read.values)?;
-        push_difference(out, lane.off)?;
+        push_difference(out, lane.difference)?;
     }
     Ok(())
 }

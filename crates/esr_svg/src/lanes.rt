@@ -107,14 +107,14 @@ fn push_share(
     y: u32,
     layout: &Layout,
 ) -> Result<(), AllocError> {
-    if lane.off == 0 {
+    if lane.difference == 0 {
         return Ok(());
     }
     push_bar(out, "j", MARGIN, y, layout.label_width)?;
     out.push_str("</rect>")?;
-    let width = bar_width(lane.off, distance, layout.label_width);
+    let width = bar_width(lane.difference, distance, layout.label_width);
     push_bar(out, "i", MARGIN, y, width)?;
-    let (name, percent) = (lane.name, percent(lane.off, distance));
+    let (name, percent) = (lane.name, percent(lane.difference, distance));
     write!(
         out,
         "<title>{name} has {percent} % of the distance</title></rect>"
@@ -314,14 +314,14 @@ fn push_crossing(
 ) -> Result<(), AllocError> {
     let x = layout.x(query_slot);
     let is_left_of_line = layout.are_differences_left_of_line(query_slot);
-    if lane.off == 0 {
+    if lane.difference == 0 {
         open_at_line(out, "m g o", x, y, is_left_of_line)?;
         return out.push_str("as read</text>\n");
     }
     write!(out, "<circle class='c' cx='{x}' cy='{y}' r='5'/>")?;
     open_at_line(out, "m r o", x, y, is_left_of_line)?;
     let has_weight_note = layout.has_space_for_weights(query_slot);
-    push_off(out, lane.off, lane.weight, has_weight_note)
+    push_off(out, lane.difference, lane.weight, has_weight_note)
 }
 
 /// Appends the distance of each lane where the line crosses it.
@@ -354,7 +354,7 @@ fn push_line(out: &mut String, scene: &Scene<'_>, layout: &Layout) -> Result<(),
 fn push_axis(out: &mut String, scene: &Scene<'_>, layout: &Layout) -> Result<(), AllocError> {
     let y = layout.lanes_bottom().saturating_add(32);
     let (start, end) = (layout.x(0), layout.lanes_end());
-    let has_updates = !scene.updates.is_empty() || scene.other_updates > 0;
+    let has_updates = !scene.updates.is_empty() || scene.omitted_updates > 0;
     let first = if has_updates {
         "before all updates"
     } else {

@@ -3,17 +3,17 @@
 //! The query's line is the vertical line at the place of the query in the serial order. A transient read returned a value
 //! that is never committed: its writer aborted, or wrote the item again (the dirty and intermediate reads of Adya, 1999).
 
-use crate::keys::count_rows;
+use crate::legend::count_rows;
 use crate::scene::{Arrow, Lane, MAX_LANES, Scene};
-use crate::slots::{Slots, left_of};
+use crate::slots::{Slots, lanes_left};
 use crate::texts::Texts;
 use crate::widths::{
     box_width, difference_width, transient_read_widths, weighted_difference_width, width_of,
 };
 use std::alloc::{AllocError, Global};
 
-/// The width that a picture exceeds only if the slots of the updates, which the caller limits by [`updates_to_keep`], or a
-/// word that cannot be wrapped need more.
+/// The width that a picture should not exceed. It does so only if the slots of the updates or a word that cannot be wrapped
+/// need more; callers limit the slots by [`updates_to_keep`].
 const PREFERRED_MAX_WIDTH: u32 = 1100;
 
 /// The minimum width of a picture.
@@ -60,6 +60,7 @@ pub struct Layout {
     slots: Slots,
     pub texts: Texts,
     pub width: u32,
+    /// The width of the boxes of updates.
     pub box_width: u32,
     /// The width of the text in front of a lane.
     pub label_width: u32,
@@ -72,7 +73,7 @@ pub struct Layout {
     legend_rows: u32,
     /// The width of the widest difference, which is written next to the query's line.
     difference_width: u32,
-    /// The width of the widest difference with the weight of its item.
+    /// The width of the widest text that has a difference and the weight of its item.
     weighted_difference_width: u32,
 }
 
@@ -95,12 +96,14 @@ impl MaxWidths {
         self.weighted_difference = self
             .weighted_difference
             .max(weighted_difference_width(lane));
-        self.transient_read = self
-            .transient_read
-            .max(transient_read.value.saturating_add(transient_read.reason));
-        self.folded_transient_read = self
-            .folded_transient_read
-            .max(transient_read.value.max(transient_read.reason));
+        self.transient_read = self.transient_read.max(
+            transient_read
+                .value_width
+                .saturating_add(transient_read.reason_width),
+        );
+        self.folded_transient_read = self.folded_transient_read.max(
+            transient_read.value_width.max(transient_read.reason_width),
+        );
     }
 }
 
@@ -224,7 +227,7 @@ impl Layout {
         Ok(Layout {
             width,
             box_width: box_width(&scene.updates),
-            label_width: left_of(&scene.lanes).saturating_sub(40),
+            label_width: lanes_left(&scene.lanes).saturating_sub(40),
             transient_read_lines: transient_read_line_count(&slots, widths, width),
             has_weights: scene.lanes.iter().any(|lane| lane.weight > 1),
             max_arch_height: max_arch_height(&scene.arrows, scene.query_slot),
@@ -332,7 +335,7 @@ impl Layout {
     pub fn legend_baseline(&self) -> u32 {
         self.lanes_bottom()
             .saturating_add(78)
-            .saturating_add(lines_height(&self.texts.others, SENTENCE_LINE_HEIGHT))
+            .saturating_add(lines_height(&self.texts.omissions, SENTENCE_LINE_HEIGHT))
     }
 
     /// Returns the height of the picture below the origin: all but the box of errors.
@@ -347,8 +350,8 @@ fn lines_height(lines: &[String], line_height: u32) -> u32 {
     (lines.len().min(1000) as u32).saturating_mul(line_height)
 }
 
-/// Returns an estimate, from the average width, of how many updates fit into a picture of the preferred maximum width, or
-/// `None` if all fit.
+/// Estimates, from the average width of a slot in this scene, how many updates fit into a picture of the preferred maximum
+/// width. Returns `None` if all fit.
 pub fn updates_to_keep(alloc: Global, scene: &Scene<'_>) -> Result<Option<usize>, AllocError> {
     let count = scene.updates.len();
     let slots = Slots::of(alloc, scene)?;

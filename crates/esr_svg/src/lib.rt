@@ -9,9 +9,9 @@
 mod boxes;
 mod elements;
 mod head;
-mod keys;
 mod lanes;
 mod layout;
+mod legend;
 mod parts;
 mod root;
 mod scene;

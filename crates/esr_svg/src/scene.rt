@@ -1,5 +1,5 @@
-//! The content of a picture as plain data: slots for the updates and the line of the query, from left to right, and a lane
-//! for each item.
+//! The content of a picture as plain data: slots for the updates and the query's line, from left to right, and a lane for
+//! each item. A slot is a position of the serial order.
 
 /// The maximum number of updates that are drawn.
 pub const MAX_UPDATES: usize = 30;
@@ -7,7 +7,7 @@ pub const MAX_UPDATES: usize = 30;
 /// The maximum number of lanes that are drawn.
 pub const MAX_LANES: usize = 24;
 
-/// An arrow from one slot to another.
+/// An arrow: the update at slot `from` has to precede the one at slot `to`.
 #[derive(Drop)]
 pub struct Arrow {
     pub from: u8,
@@ -88,11 +88,11 @@ pub struct LaneSegment {
 #[derive(Drop)]
 pub struct Lane<'a> {
     pub name: &'a str,
-    /// The factor of differences of the item.
+    /// The weight of the item, by which its differences are multiplied.
     pub weight: u64,
     pub read: LaneReads,
-    /// The distance of the reads from the version at the line.
-    pub off: u64,
+    /// The sum of the differences between the reads and the version at the query's line, times the weight.
+    pub difference: u64,
     pub segments: Vec<LaneSegment>,
     pub transient_reads: TransientReads<'a>,
 }
@@ -104,7 +104,7 @@ pub struct Update<'a> {
     pub slot: u8,
     /// The number of lanes down to the last one that it wrote.
     pub reach: u8,
-    /// True if the query has to be placed after it.
+    /// Whether it must precede the query in every placement.
     pub must: bool,
     /// The values that it wrote.
     pub title: String,
@@ -132,16 +132,16 @@ pub struct Scene<'a> {
     pub updates: Vec<Update<'a>>,
     pub arrows: Vec<Arrow>,
     pub lanes: Vec<Lane<'a>>,
-    /// The slot of the line at the nearest serial placement of the query.
+    /// The slot of the query's line, at its nearest serial placement.
     pub query_slot: u8,
     /// The number of items that were never written, of which the query read the opening value, and that have no lane.
     pub unwritten_items: usize,
-    /// The numbers of updates before the query's commit that are not drawn, and of other items without a lane.
-    pub other_updates: u64,
-    pub other_items: usize,
-    /// The number of those items that are off, and by how much together.
-    pub others_off: usize,
-    pub others_sum: u64,
+    /// The number of updates before the query's commit that are not drawn, and that of the other items without a lane.
+    pub omitted_updates: u64,
+    pub omitted_items: usize,
+    /// The number of omitted items whose reads differ from their versions at the line, and the sum of these differences.
+    pub omitted_items_off: usize,
+    pub omitted_difference: u64,
     /// The items without a lane that keep the line from a position at which the lanes would be less far off.
     pub deciding: Deciding<'a>,
 }
@@ -153,7 +153,7 @@ impl Scene<'_> {
     }
 }
 
-/// Returns whether some lane has a value that is not a version.
+/// Returns whether some lane has a transient read.
 pub fn have_transient_read(lanes: &[Lane<'_>]) -> bool {
     for lane in lanes {
         if lane.transient_reads.first.is_some() {

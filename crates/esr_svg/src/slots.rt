@@ -22,8 +22,8 @@ pub struct Slots {
     places: Vec<u32>,
 }
 
-/// Returns where the lanes begin: after the widest text in front of one.
-pub fn left_of(lanes: &[Lane<'_>]) -> u32 {
+/// Returns the x coordinate at which the lanes begin: after the widest text in front of one.
+pub fn lanes_left(lanes: &[Lane<'_>]) -> u32 {
     let mut widest = 96u32;
     for lane in lanes {
         widest = widest.max(label_width(lane));
@@ -121,7 +121,7 @@ impl Slots {
         let width = box_width(&scene.updates);
         let last = scene.last_slot();
         let mut places = Vec::new(alloc);
-        places.push(left_of(&scene.lanes))?;
+        places.push(lanes_left(&scene.lanes))?;
         for slot in 1..last.saturating_add(1) {
             let before = half_of(slot.saturating_sub(1), scene.query_slot, last, width);
             let gap = before

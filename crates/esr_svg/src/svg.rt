@@ -6,9 +6,9 @@
 use crate::boxes::push_updates;
 use crate::elements::push_text;
 use crate::head::{push_attributes, push_head, push_heading};
-use crate::keys::push_keys;
 use crate::lanes::push_audit;
 use crate::layout::{Layout, MARGIN, SENTENCE_LINE_HEIGHT};
+use crate::legend::push_keys;
 use crate::scene::Scene;
 use std::alloc::{AllocError, Global};
 
@@ -20,9 +20,9 @@ pub struct Parts {
 }
 
 /// Appends the sentences on what is not drawn.
-fn push_others(out: &mut String, layout: &Layout) -> Result<(), AllocError> {
+fn push_omissions(out: &mut String, layout: &Layout) -> Result<(), AllocError> {
     let mut y = layout.lanes_bottom().saturating_add(74);
-    for line in &layout.texts.others {
+    for line in &layout.texts.omissions {
         push_text(out, "q", MARGIN, y, line)?;
         out.push_str("\n")?;
         y = y.saturating_add(SENTENCE_LINE_HEIGHT);
@@ -41,7 +41,7 @@ fn push_body(
     push_heading(out, layout)?;
     push_updates(out, scene, layout)?;
     push_audit(alloc, out, scene, layout)?;
-    push_others(out, layout)?;
+    push_omissions(out, layout)?;
     push_keys(out, scene, layout)
 }
 

@@ -31,8 +31,8 @@ pub struct ErrorLine {
 pub struct Texts {
     pub heading: Vec<String>,
     pub sentences: Vec<String>,
-    /// The sentences on what is not drawn.
-    pub others: Vec<String>,
+    /// The sentences about the updates and items that are not drawn.
+    pub omissions: Vec<String>,
     pub errors: Vec<ErrorLine>,
 }
 
@@ -86,17 +86,22 @@ fn push_other_items(out: &mut String, items: u64, off: u64, sum: u64) -> Result<
 }
 
 /// Appends how many updates and items are not drawn.
-fn push_others(out: &mut String, scene: &Scene<'_>) -> Result<(), AllocError> {
-    let items = scene.other_items as u64;
+fn push_omissions(out: &mut String, scene: &Scene<'_>) -> Result<(), AllocError> {
+    let items = scene.omitted_items as u64;
     out.push_str("Not drawn: ")?;
-    if scene.other_updates > 0 {
-        push_count(out, scene.other_updates, " more update", " more updates")?;
+    if scene.omitted_updates > 0 {
+        push_count(out, scene.omitted_updates, " more update", " more updates")?;
     }
-    if scene.other_updates > 0 && items > 0 {
+    if scene.omitted_updates > 0 && items > 0 {
         out.push_str("; ")?;
     }
     if items > 0 {
-        push_other_items(out, items, scene.others_off as u64, scene.others_sum)?;
+        push_other_items(
+            out,
+            items,
+            scene.omitted_items_off as u64,
+            scene.omitted_difference,
+        )?;
     }
     out.push('.')
 }
@@ -127,11 +132,11 @@ fn push_rest(
     sentences: &mut Vec<String>,
     scene: &Scene<'_>,
 ) -> Result<(), AllocError> {
-    if scene.other_updates == 0 && scene.other_items == 0 {
+    if scene.omitted_updates == 0 && scene.omitted_items == 0 {
         return Ok(());
     }
     let mut words = String::new(alloc);
-    push_others(&mut words, scene)?;
+    push_omissions(&mut words, scene)?;
     sentences.push(words)?;
     Ok(())
 }
@@ -173,7 +178,7 @@ fn push_deciding(
 }
 
 /// Returns the lines on what is not drawn.
-fn others_of(alloc: Global, scene: &Scene<'_>, width: u32) -> Result<Vec<String>, AllocError> {
+fn omissions_of(alloc: Global, scene: &Scene<'_>, width: u32) -> Result<Vec<String>, AllocError> {
     let mut sentences = Vec::new(alloc);
     push_unwritten(alloc, &mut sentences, scene)?;
     push_rest(alloc, &mut sentences, scene)?;
@@ -281,7 +286,7 @@ impl Texts {
         Ok(Texts {
             heading: heading_of(alloc, scene, width)?,
             sentences: lines_of(alloc, &scene.sentences, MAX_SENTENCES, width)?,
-            others: others_of(alloc, scene, width)?,
+            omissions: omissions_of(alloc, scene, width)?,
             errors: errors_of(alloc, &scene.errors, width)?,
         })
     }

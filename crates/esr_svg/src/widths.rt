@@ -96,7 +96,7 @@ pub fn segment_widths(segment: &LaneSegment) -> (u32, Option<u32>) {
     )
 }
 
-/// Returns the width of the boxes: of the longest name of an update.
+/// Returns the width of the boxes of updates, which fits the longest name.
 pub fn box_width(updates: &[Update<'_>]) -> u32 {
     let mut letters = 0usize;
     for update in updates {
@@ -105,14 +105,14 @@ pub fn box_width(updates: &[Update<'_>]) -> u32 {
     width_of(letters).saturating_add(20)
 }
 
-/// Returns the width of `off by` and the sum at the line.
+/// Returns the width of the text `off by` with the difference of a lane.
 pub fn difference_width(lane: &Lane<'_>) -> u32 {
-    width_of(number_letters(lane.off).saturating_add(7))
+    width_of(number_letters(lane.difference).saturating_add(7))
 }
 
-/// Returns the width of the same with the difference and the weight.
+/// Returns the width of this text with the weight as a factor, or 0 if the weight is 1.
 pub fn weighted_difference_width(lane: &Lane<'_>) -> u32 {
-    let Some(difference) = lane.off.checked_div(lane.weight) else {
+    let Some(difference) = lane.difference.checked_div(lane.weight) else {
         return 0;
     };
     if lane.weight < 2 {
@@ -124,14 +124,14 @@ pub fn weighted_difference_width(lane: &Lane<'_>) -> u32 {
     difference_width(lane).saturating_add(width_of(factors))
 }
 
-/// The widths of the two parts of the text on a value that is not a version.
+/// The widths of the two parts of the text about a transient read.
 #[derive(Clone, Copy)]
 pub struct TransientReadWidths {
-    pub value: u32,
-    pub reason: u32,
+    pub value_width: u32,
+    pub reason_width: u32,
 }
 
-/// Returns the maximum number of letters of the end of the text on a value that is not a version.
+/// Returns the maximum number of letters of the end of the text about a transient read.
 fn ending_letters(same: Option<SameValue<'_>>, more: usize) -> usize {
     match same {
         Some(SameValue::Opening) => 27,
@@ -141,12 +141,12 @@ fn ending_letters(same: Option<SameValue<'_>>, more: usize) -> usize {
     }
 }
 
-/// Returns the widths of the text on the values of a lane that are not versions.
+/// Returns the widths of the text about the transient reads of a lane.
 pub fn transient_read_widths(transient_reads: &TransientReads<'_>) -> TransientReadWidths {
     let Some(transient_read) = transient_reads.first else {
         return TransientReadWidths {
-            value: 0,
-            reason: 0,
+            value_width: 0,
+            reason_width: 0,
         };
     };
     let ending = ending_letters(transient_read.same, transient_reads.more);
@@ -159,7 +159,7 @@ pub fn transient_read_widths(transient_reads: &TransientReads<'_>) -> TransientR
         .saturating_add(ending)
         .saturating_add(7);
     TransientReadWidths {
-        value: width_of(value),
-        reason: width_of(reason),
+        value_width: width_of(value),
+        reason_width: width_of(reason),
     }
 }

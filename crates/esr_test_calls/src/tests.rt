@@ -1,6 +1,7 @@
-//! A file for each library, and `meeting`, which shows that two threads run concurrently. Each call is proved, but no
+//! A file for each library, and `barrier`, which shows that two threads run concurrently. Each call is proved, but no
 //! contract guarantees memory or a thread, and none compares a definition with the formats: these tests do.
 
+mod barrier;
 mod boards;
 mod certificates;
 mod drives;
@@ -8,7 +9,6 @@ mod items;
 mod ledgers;
 mod locks;
 mod machine;
-mod meeting;
 mod parallel;
 mod reasons;
 mod sessions;

@@ -6,7 +6,7 @@ use Rattle.esr_history.specs.declared.event.Refusal.TheVariants.{NoSuchTransacti
 use Rattle.esr_history.specs.WorkedExamples.{item, txn}
 use Rattle.esr_test_definitions.specs.Outcomes.{Input, Outcome, audit, input, outcome, outcome_of}
 
--- each input: the opening values and the weights of the items, and the events
+-- each input: the opening values and the weights of the items, and the events (BeginUpdate LIMIT, BeginQuery LIMIT IS_STRICT, ..)
 abbrev pub inputs : List Input
 inputs =
     (input (negsuc 4 ∷ pos 3 ∷ pos 0 ∷ []) (7 ∷ 7 ∷ 1 ∷ [])
@@ -169,7 +169,8 @@ inputs =
     [])) ∷
     []
 
--- each outcome: the replies, the import or export of each transaction, and the audit of each committed query
+-- each outcome: the replies, the import or export of each transaction, and the audits of the committed queries
+-- (audit QUERY DISTANCE UPDATES_BEFORE)
 abbrev pub outcomes : List Outcome
 outcomes =
     (outcome (Begun (txn 1) ∷

@@ -2,7 +2,7 @@
 ghost use Rattle.std.specs.Prelude.{◌≡◌};
 ghost use Rattle.esr_board.specs.Boards.{IsSeatOf, jobs_of};
 
-use crate::tests::meeting::Meeting;
+use crate::tests::barrier::Barrier;
 use esr_audit::{AuditError, Book, Finding};
 use esr_board::{Board, BoardSeat, Gate, NoGate, audit_parallel, work};
 use esr_core::Machine;
@@ -156,11 +156,11 @@ fn an_empty_history_has_no_findings(rt: HostRuntime) {
 fn two_workers_at_once(rt: HostRuntime) {
     let mut m = machine_after_report(&rt, rt.alloc());
     run_events(&rt, &mut m, &A_SECOND_REPORT);
-    let gate = Meeting::new();
-    let book = audit_by(&rt, rt.alloc(), m.history(), 2, &gate);
+    let barrier = Barrier::new();
+    let book = audit_by(&rt, rt.alloc(), m.history(), 2, &barrier);
     assert!(rt; book.findings.len() == 2);
     assert!(rt; is_of_the_first_report(&book.findings[0]) && book.findings[1].query == TxnId(4));
-    gate.check(&rt);
+    barrier.assert_both_entered(&rt);
 }
 
 /// Returns a board of `jobs` jobs, and its one seat.

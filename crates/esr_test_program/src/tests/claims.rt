@@ -3,7 +3,7 @@
 
 use esr_commands::{claim_of, detail_of};
 use esr_history::Watched;
-use esr_lint::Unobserved;
+use esr_lint::NoObserver;
 use esr_script::ask;
 use esr_views::AuditedQuery;
 use std::alloc::{AllocError, Global};
@@ -59,7 +59,7 @@ fn is_line(alloc: Global, audited: &AuditedQuery, name: &str, bundle: &str, want
 /// Compares the line about a bundle and a query of the script.
 fn claims(rt: &impl Abort, alloc: Global, name: &str, bundle: &str, wanted: &str) {
     let mut reader = Watched::new(SCRIPT.as_bytes());
-    let Ok(audited) = ask(alloc, &mut reader, name, &mut Unobserved) else {
+    let Ok(audited) = ask(alloc, &mut reader, name, &mut NoObserver) else {
         panic!(rt; "a committed query");
     };
     assert!(rt;

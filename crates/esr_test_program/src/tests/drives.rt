@@ -9,7 +9,7 @@ mod failing;
 use crate::tests::devices::check_written;
 use esr_drive::{DriveFault, DriveOutput, NoGate, drive};
 use esr_history::Watched;
-use esr_lint::Unobserved;
+use esr_lint::NoObserver;
 use std::alloc::Global;
 use std::io::{Read, Write};
 use std::sync::Wait;
@@ -272,8 +272,10 @@ fn drive_by<T: Threads + Wait + Sync, R: Read, W: Write>(
     requires writer { failed writer.old ≡ false }
     requires workers { (1 ≤ workers) × (workers ≤ 64) }
 {
-    let form = DriveOutput::Text { workers };
-    drive(rt, alloc, reader, writer, form, &NoGate, &mut Unobserved)
+    let form = DriveOutput::Text {
+        audit_workers: workers,
+    };
+    drive(rt, alloc, reader, writer, form, &NoGate, &mut NoObserver)
 }
 
 /// The contract leaves the history open, so a drive could always report it as full; a single busy block permits only

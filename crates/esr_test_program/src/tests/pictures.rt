@@ -5,7 +5,7 @@ ghost use Rattle.esr_base.specs.Watch.{failed};
 
 use crate::tests::devices::{Way, check_cut, cut_after, narrow_until};
 use esr_history::Watched;
-use esr_lint::{Notes, Unobserved};
+use esr_lint::{NoObserver, Notes};
 use esr_picture::{PictureView, PictureWithErrorsView};
 use esr_script::{RunFault, render_query};
 use std::alloc::{AllocError, Global};
@@ -70,7 +70,7 @@ fn draw<R: Read, W: Write>(
     requires reader { failed reader.old ≡ false }
     requires writer { failed writer.old ≡ false }
 {
-    render_query(alloc, reader, writer, name, &PictureView, &mut Unobserved)
+    render_query(alloc, reader, writer, name, &PictureView, &mut NoObserver)
 }
 
 /// Draws the query of that name, and searches the output for texts.
@@ -124,7 +124,7 @@ fn lines_with_errors_are_drawn(rt: HostRuntime) {
         &mut writer,
         "report",
         &view,
-        &mut Unobserved,
+        &mut NoObserver,
     );
     assert!(&rt; ended == Ok(()));
     let written = from_utf8(writer.inner().as_slice()).unwrap_or("");

@@ -2,7 +2,7 @@
 
 use crate::tests::pictures::BANK;
 use esr_history::Watched;
-use esr_lint::{Notes, Unobserved};
+use esr_lint::{NoObserver, Notes};
 use esr_page::{Page, PageMetadata};
 use esr_picture::PictureView;
 use esr_prose::{Passage, Prose};
@@ -77,7 +77,7 @@ pub fn script_views<S: ScriptView>(
 ) {
     let mut reader = Watched::new(script.as_bytes());
     let mut writer = Watched::new(Vec::new(alloc));
-    let ended = render_script(alloc, &mut reader, &mut writer, view_of, &mut Unobserved);
+    let ended = render_script(alloc, &mut reader, &mut writer, view_of, &mut NoObserver);
     assert!(rt; ended == ends);
     let written = from_utf8(writer.inner().as_slice()).unwrap_or("");
     assert!(rt; written == text, "it is {}", written);
@@ -87,7 +87,7 @@ pub fn script_views<S: ScriptView>(
 fn has<S: ScriptView>(rt: &impl Abort, alloc: Global, script: &str, view_of: &S, texts: &[&str]) {
     let mut reader = Watched::new(script.as_bytes());
     let mut writer = Watched::new(Vec::new(alloc));
-    let ended = render_script(alloc, &mut reader, &mut writer, view_of, &mut Unobserved);
+    let ended = render_script(alloc, &mut reader, &mut writer, view_of, &mut NoObserver);
     assert!(rt; ended == Ok(()));
     let written = from_utf8(writer.inner().as_slice()).unwrap_or("");
     for text in texts {

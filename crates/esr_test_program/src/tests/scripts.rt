@@ -14,7 +14,7 @@ pub mod rows;
 
 use crate::tests::devices::check_written;
 use esr_history::Watched;
-use esr_lint::Unobserved;
+use esr_lint::NoObserver;
 use esr_script::{RunFault, run};
 use rows::table;
 use std::alloc::Global;
@@ -30,7 +30,7 @@ pub fn run_script<R: Read, W: Write>(
     requires reader { failed reader.old ≡ false }
     requires writer { failed writer.old ≡ false }
 {
-    run(alloc, reader, writer, &mut Unobserved)
+    run(alloc, reader, writer, &mut NoObserver)
 }
 
 /// Runs a script, and compares the output with the text.

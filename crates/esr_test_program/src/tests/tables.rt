@@ -3,7 +3,7 @@
 
 use crate::tests::script_views::script_views;
 use esr_history::Watched;
-use esr_lint::Unobserved;
+use esr_lint::NoObserver;
 use esr_script::{AuditedScript, NoGate, audit_silently, render_query};
 use esr_tables::{Data, ExplanationTable, Format, Ledger, audit_table};
 use esr_views::{QueryView, ScriptView};
@@ -99,7 +99,7 @@ fn explains_as<T: QueryView>(rt: &impl Abort, alloc: Global, view: &T, text: &st
         &mut writer,
         "report",
         view,
-        &mut Unobserved,
+        &mut NoObserver,
     );
     assert!(rt; ended == Ok(()));
     assert!(rt; writer.inner().as_slice() == text.as_bytes());
@@ -136,7 +136,7 @@ fn an_empty_ledger_has_its_heads(rt: HostRuntime) {
 fn audits_are<R: Abort + Threads + Sync>(rt: &R, alloc: Global, data: Data, text: &str) {
     for workers in [1, 3] {
         let mut reader = Watched::new(BANK.as_bytes());
-        let audited = audit_silently(rt, alloc, &mut reader, workers, &NoGate, &mut Unobserved);
+        let audited = audit_silently(rt, alloc, &mut reader, workers, &NoGate, &mut NoObserver);
         let Ok(
             AuditedScript {
                 transactions,

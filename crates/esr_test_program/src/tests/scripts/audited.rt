@@ -2,7 +2,7 @@
 
 use crate::tests::devices::check_written;
 use esr_history::Watched;
-use esr_lint::Unobserved;
+use esr_lint::NoObserver;
 use esr_script::{NoGate, RunFault, audit};
 use std::alloc::Global;
 use std::process::Abort;
@@ -107,7 +107,7 @@ fn audits<R: Abort + Threads + Sync>(
         &mut writer,
         workers,
         &NoGate,
-        &mut Unobserved,
+        &mut NoObserver,
     );
     assert!(rt; ended == ends, "the audit ends so");
     check_written(rt, &writer, output, script);

@@ -5,7 +5,7 @@ ghost use Rattle.esr_base.specs.Watch.{failed};
 
 use crate::tests::devices::{Way, check_cut, check_narrow, check_written, cut_after, narrow_until};
 use esr_history::Watched;
-use esr_lint::Unobserved;
+use esr_lint::NoObserver;
 use esr_script::{RunFault, certify, certify_steps};
 use std::alloc::Global;
 use std::io::{Read, Write};
@@ -67,7 +67,7 @@ fn certify_q<R: Read, W: Write>(
     requires reader { failed reader.old ≡ false }
     requires writer { failed writer.old ≡ false }
 {
-    certify(alloc, reader, writer, "q", &mut Unobserved)
+    certify(alloc, reader, writer, "q", &mut NoObserver)
 }
 
 fn check_bundle(
@@ -82,9 +82,9 @@ fn check_bundle(
     let mut reader = Watched::new(script.as_bytes());
     let mut writer = Watched::new(Vec::new(alloc));
     let ended = if steps {
-        certify_steps(alloc, &mut reader, &mut writer, name, &mut Unobserved)
+        certify_steps(alloc, &mut reader, &mut writer, name, &mut NoObserver)
     } else {
-        certify(alloc, &mut reader, &mut writer, name, &mut Unobserved)
+        certify(alloc, &mut reader, &mut writer, name, &mut NoObserver)
     };
     assert!(rt; ended == ends, "{} ends so", name);
     check_written(rt, &writer, text, name);

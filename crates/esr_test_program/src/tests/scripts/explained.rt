@@ -3,7 +3,7 @@
 use crate::tests::devices::check_written;
 use esr_explain::Explaining;
 use esr_history::Watched;
-use esr_lint::Unobserved;
+use esr_lint::NoObserver;
 use esr_script::{RunFault, render_query};
 use std::alloc::Global;
 use std::process::Abort;
@@ -120,7 +120,7 @@ fn check_explanation(
         &mut writer,
         name,
         &Explaining,
-        &mut Unobserved,
+        &mut NoObserver,
     );
     assert!(rt; ended == ends, "{} ends so", name);
     check_written(rt, &writer, text, name);

@@ -6,7 +6,7 @@ ghost use Rattle.esr_base.specs.Watch.{failed};
 use super::run_script;
 use crate::tests::devices::{Way, check_cut, check_narrow, cut_after, narrow_until};
 use esr_history::Watched;
-use esr_lint::Unobserved;
+use esr_lint::NoObserver;
 use esr_script::{NoGate, RunFault, audit};
 use std::alloc::Global;
 use std::io::{Read, Write};
@@ -92,7 +92,7 @@ fn audit_by_two<T: Threads + Sync, R: Read, W: Write>(
     requires reader { failed reader.old ≡ false }
     requires writer { failed writer.old ≡ false }
 {
-    audit(rt, alloc, reader, writer, 2, &NoGate, &mut Unobserved)
+    audit(rt, alloc, reader, writer, 2, &NoGate, &mut NoObserver)
 }
 
 /// No clause states what is written if the reader does not specify its bytes: it could be the audit of half a script.

@@ -95,7 +95,7 @@ fn occurs(scene: &Scene<'_>, key: Key) -> bool {
         Key::Must => scene.updates.iter().any(|update| update.must),
         Key::First => !scene.arrows.is_empty(),
         Key::Nearest => !scene.lanes.is_empty(),
-        Key::Share => scene.lanes.iter().any(|lane| lane.off > 0),
+        Key::Share => scene.lanes.iter().any(|lane| lane.difference > 0),
     }
 }
 
