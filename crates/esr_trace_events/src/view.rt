@@ -50,7 +50,7 @@ impl Writer<'_> {
         self.push_flows(recording, place, &charges)
     }
 
-    /// Appends the events of all entries.
+    /// Appends the events of all entries, and the end of the text.
     fn push_all(&mut self, alloc: Global, recording: &Recording<'_>) -> Result<(), AllocError> {
         let log = recording.history.log();
         for place in 0..log.len() {
@@ -58,7 +58,7 @@ impl Writer<'_> {
                 self.push(alloc, recording, place, entry)?;
             }
         }
-        Ok(())
+        self.out.push_str("\n]}\n")
     }
 }
 
@@ -72,8 +72,7 @@ fn text_about(alloc: Global, recording: &Recording<'_>) -> Result<String, AllocE
         flows: 0,
     };
     writer.push_all(alloc, recording)?;
-    let Writer { mut out, .. } = writer;
-    out.push_str("\n]}\n")?;
+    let Writer { out, .. } = writer;
     Ok(out)
 }
 
