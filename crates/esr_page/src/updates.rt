@@ -40,6 +40,19 @@ impl Exports {
         Ok(())
     }
 
+    /// Notes the charges of the next `count` entries of a replay.
+    fn note_entries(
+        &mut self,
+        alloc: Global,
+        charges: &mut Charges<'_>,
+        count: usize,
+    ) -> Result<(), AllocError> {
+        for _ in 0..count {
+            self.note_all(&charges.step(alloc)?)?;
+        }
+        Ok(())
+    }
+
     /// Returns the number of queries that each update exported to.
     fn reports(&mut self, alloc: Global) -> Result<Vec<u64>, AllocError> {
         let mut reports = vec![in alloc; 0u64; self.amounts.len()]?;
@@ -63,9 +76,7 @@ fn exports_of(alloc: Global, history: &History<Weighted>) -> Result<Exports, All
         pairs: Vec::new(alloc),
     };
     let mut charges = Charges::new(alloc, history)?;
-    for _ in 0..history.log().len() {
-        exports.note_all(&charges.step(alloc)?)?;
-    }
+    exports.note_entries(alloc, &mut charges, history.log().len())?;
     Ok(exports)
 }
 

@@ -3,7 +3,8 @@
 //! A read is off if the nearest placement has another value of its item. All charges for this item explain it. If the
 //! writer of the value is not before the placement, its charges for other items explain why it is not.
 
-use crate::model::{Arrow, Relation, Source};
+use crate::source::Source;
+use esr_chart::{Arrow, Relation};
 use esr_history::{Event, TxnId};
 use esr_items::{ItemId, Metric};
 use esr_outcomes::QueryAudit;

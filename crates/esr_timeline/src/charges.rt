@@ -3,7 +3,8 @@
 use crate::causes::{Causes, ranking};
 use crate::lanes::lane_at;
 use crate::marks::line_at;
-use crate::model::{Arrow, Lane, Relation, Source};
+use crate::source::Source;
+use esr_chart::{Arrow, Lane, Relation};
 use esr_history::TxnId;
 use esr_items::Metric;
 use esr_trace_events::{Change, Charge, Charges};
@@ -87,6 +88,31 @@ fn count_entries(source: Source<'_>, charged_queries: ChargedQueries) -> usize {
     end.map_or(count, |end| count.min((end as usize).saturating_add(1)))
 }
 
+/// Adds the charges of the entries of a replay up to the end of the queries.
+fn push_all_charges<'a>(
+    alloc: Global,
+    arrows: &mut Vec<Arrow<'a>>,
+    charges: &mut Charges<'_>,
+    source: Source<'a>,
+    causes: &Causes,
+    lanes: &[Lane<'a>],
+    charged_queries: ChargedQueries,
+) -> Result<(), AllocError> {
+    for place in 0..count_entries(source, charged_queries) {
+        let charges = charges.step(alloc)?;
+        push_charges(
+            arrows,
+            source,
+            causes,
+            lanes,
+            charged_queries,
+            place,
+            &charges,
+        )?;
+    }
+    Ok(())
+}
+
 /// Returns the charges to queries that have lanes, in the order of their entries.
 pub fn charges_to<'a>(
     alloc: Global,
@@ -97,18 +123,15 @@ pub fn charges_to<'a>(
 ) -> Result<Vec<Arrow<'a>>, AllocError> {
     let mut arrows = Vec::new(alloc);
     let mut charges = Charges::new(alloc, source.history)?;
-    for place in 0..count_entries(source, charged_queries) {
-        let charges = charges.step(alloc)?;
-        push_charges(
-            &mut arrows,
-            source,
-            causes,
-            lanes,
-            charged_queries,
-            place,
-            &charges,
-        )?;
-    }
+    push_all_charges(
+        alloc,
+        &mut arrows,
+        &mut charges,
+        source,
+        causes,
+        lanes,
+        charged_queries,
+    )?;
     Ok(arrows)
 }
 

@@ -3,15 +3,12 @@
 //! Every name in it was bound by a line of the script, so it is letters, digits and `_`. Nothing else that is written is
 //! other than fixed words and numbers. So nothing has to be escaped.
 
-use crate::bands::push_bands;
-use crate::elements::push_text;
 use crate::fit::{Picture, Pictures};
-use crate::head::{
-    Size, Sizes, open_narrow, prefix_of, push_attributes, push_background, push_head,
-};
-use crate::layout::MARGIN;
-use crate::legend::{legend_height, push_legend};
 use crate::sentences::{Line, LineClass, push_all_lines};
+use esr_chart::{
+    MARGIN, Size, Sizes, legend_height, open_narrow, prefix_of, push_attributes, push_background,
+    push_bands, push_head, push_legend, push_text,
+};
 use std::alloc::{AllocError, Global};
 
 /// The least widths of the layouts.

@@ -7,9 +7,9 @@ use crate::charges::{
     ChargedQueries, between, charges_to, drawable, greatest, sum_of, with_exports,
 };
 use crate::lanes::{MAX_LANES, concerned, farthest, first_begun, lanes_of};
-use crate::layout::{Drawn, Format, Layout, Spacing, layout_of};
 use crate::marks::{keys_of, mark_keys, mark_query_reads, marks_of, marks_on};
-use crate::model::{Arrow, Lane, Mark, Order, Rest, Scene, Source};
+use crate::source::Source;
+use esr_chart::{Arrow, Drawn, Format, Lane, Layout, Mark, Order, Rest, Scene, Spacing, layout_of};
 use esr_history::TxnId;
 use esr_report::name_of_transaction;
 use esr_text::first;

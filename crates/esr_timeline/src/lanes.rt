@@ -1,7 +1,8 @@
 //! Which transactions have a lane: all of a short script; else the query, and the transactions that concern it.
 
 use crate::causes::ranking;
-use crate::model::{Arrow, Lane, Source};
+use crate::source::Source;
+use esr_chart::{Arrow, Lane};
 use esr_history::{Entry, Event, Refusal, Reply, TxnId};
 use esr_outcomes::{Auditor, TxnKind, kind_at, kinds_of, outcome_of};
 use esr_report::name_of_transaction;

@@ -4,31 +4,20 @@
 //!
 //! The picture of an audit (`esr_picture`) shows a serial order and has no time axis. A timeline shows the order of
 //! execution. Its charges are those of a machine that replays the history (`esr_trace_events`), and its events are the
-//! entries of the history. For a long script it shows one query and the transactions that affect it. The width of each
-//! text is computed in advance, and `layout` places the columns so that no two texts overlap, in several bands one below
-//! another if they do not fit in one. If there are too many bands, `fit` omits labels, then events, then charges; the
-//! charges that explain the distance are omitted last (`causes`). The SVG element has a wide layout, and a narrow one for
-//! phones (`head`). Rejected: a narrow layout alone, which is too tall for a screen. The contract specifies only that the
-//! result is one well-formed element; `checks/pictures` compares the drawing with a replay.
+//! entries of the history. For a long script it shows one query and the transactions that affect it. `esr_chart` draws it.
+//! If it has too many bands, `fit` omits labels, then events, then charges; the charges that explain the distance are
+//! omitted last (`causes`). The SVG element has a wide layout, and a narrow one for phones. The contract specifies only
+//! that the result is one well-formed element; `checks/pictures` compares the drawing with a replay.
 #![tactic(auto)]
 
-mod bands;
 mod causes;
 mod charges;
 mod drawing;
-mod edges;
-mod elements;
 mod fit;
-mod head;
 mod lanes;
-mod layout;
-mod legend;
-mod limits;
 mod marks;
-mod model;
 mod sentences;
-mod signs;
-mod titles;
+mod source;
 mod view;
 
 pub use view::{Timeline, TimelinePart};

@@ -1,7 +1,8 @@
 //! The marks on lanes: one pass over the log. An event that was blocked and tried again at once has one mark.
 
 use crate::lanes::{all_nearest, blocker_of, lane_at, txn_of};
-use crate::model::{Action, Arrow, Cause, Lane, Mark, Source};
+use crate::source::Source;
+use esr_chart::{Action, Arrow, Cause, Lane, Mark};
 use esr_history::{Entry, Event, Refusal, Reply, TxnId};
 use esr_items::ItemId;
 use esr_report::name_of_transaction;

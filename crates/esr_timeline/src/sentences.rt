@@ -1,9 +1,7 @@
 //! The lines above the lanes: the heading, the lines with errors, what is not drawn, and the weights.
 
 use crate::fit::Picture;
-use crate::head::push_heading_words;
-use crate::layout::{Band, MARGIN};
-use crate::model::{Arrow, Order, Rest, Scene};
+use esr_chart::{Arrow, Band, MARGIN, Order, Rest, Scene, push_heading_words};
 use esr_text::{first, push_count, push_number, wrap};
 use std::alloc::{AllocError, Global};
 

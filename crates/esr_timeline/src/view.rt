@@ -5,7 +5,7 @@ ghost use Rattle.esr_svg.specs.Svg.{IsSvg};
 
 use crate::drawing::{Parts, parts_of};
 use crate::fit::{Pictures, timeline_of_query, timeline_of_script};
-use crate::model::Source;
+use crate::source::Source;
 use esr_history::TxnId;
 use esr_lint::Notes;
 use esr_outcomes::Auditor;

@@ -102,6 +102,33 @@ impl<M: Metric> Recorder<'_, M> {
         };
         self.note(alloc, step)
     }
+
+    /// Executes and notes the next `count` entries.
+    fn run(&mut self, alloc: Global, count: usize) -> Result<(), AllocError> {
+        for _ in 0..count {
+            self.step(alloc)?;
+        }
+        Ok(())
+    }
+}
+
+/// Returns the recorder before the first entry. The replay is created last, so that no other error has to drop it, which
+/// would be costly to prove.
+fn recorder_of<'a, M: Metric>(
+    alloc: Global,
+    history: &'a History<M>,
+    queries: &[TxnId],
+) -> Result<Recorder<'a, M>, AllocError> {
+    let keepers = vec![in alloc; None; history.items() as usize]?;
+    let traces = empty_traces(alloc, history, queries)?;
+    match Replay::new(alloc, history) {
+        Ok(replay) => Ok(Recorder {
+            replay,
+            keepers,
+            traces,
+        }),
+        Err(_) => Err(AllocError),
+    }
 }
 
 /// Returns the traces of queries before the first entry.
@@ -123,17 +150,8 @@ pub fn traces_of<M: Metric>(
     history: &History<M>,
     queries: &[TxnId],
 ) -> Result<Vec<QueryTrace>, AllocError> {
-    let Ok(replay) = Replay::new(alloc, history) else {
-        return Err(AllocError);
-    };
-    let mut recorder = Recorder {
-        replay,
-        keepers: vec![in alloc; None; history.items() as usize]?,
-        traces: empty_traces(alloc, history, queries)?,
-    };
-    for _ in 0..history.log().len() {
-        recorder.step(alloc)?;
-    }
+    let mut recorder = recorder_of(alloc, history, queries)?;
+    recorder.run(alloc, history.log().len())?;
     let Recorder { traces, .. } = recorder;
     Ok(traces)
 }

@@ -88,14 +88,16 @@ fn active(
 impl<'a> Charges<'a> {
     /// Creates a replay before the first entry.
     pub fn new(alloc: Global, history: &'a History<Weighted>) -> Result<Charges<'a>, AllocError> {
-        let Ok(replay) = Replay::new(alloc, history) else {
-            return Err(AllocError);
-        };
-        Ok(Charges {
-            replay,
-            readers: no_readers(alloc, history.items())?,
-            amounts: vec![in alloc; 0u64; history.begun_count().saturating_add(1)]?,
-        })
+        let readers = no_readers(alloc, history.items())?;
+        let amounts = vec![in alloc; 0u64; history.begun_count().saturating_add(1)]?;
+        match Replay::new(alloc, history) {
+            Ok(replay) => Ok(Charges {
+                replay,
+                readers,
+                amounts,
+            }),
+            Err(_) => Err(AllocError),
+        }
     }
 
     /// Notes what the queries imported by the last entry.

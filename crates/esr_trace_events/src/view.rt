@@ -49,23 +49,30 @@ impl Writer<'_> {
         let charges = self.charges.step(alloc)?;
         self.push_flows(recording, place, &charges)
     }
+
+    /// Appends the events of all entries, and the end of the text.
+    fn push_all(&mut self, alloc: Global, recording: &Recording<'_>) -> Result<(), AllocError> {
+        let log = recording.history.log();
+        for place in 0..log.len() {
+            if let Some(entry) = log.get(place) {
+                self.push(alloc, recording, place, entry)?;
+            }
+        }
+        self.out.push_str("\n]}\n")
+    }
 }
 
 /// Returns the text of the trace events.
 fn text_about(alloc: Global, recording: &Recording<'_>) -> Result<String, AllocError> {
+    let out = String::from_str(alloc, HEAD)?;
+    let charges = Charges::new(alloc, &recording.history)?;
     let mut writer = Writer {
-        charges: Charges::new(alloc, &recording.history)?,
-        out: String::from_str(alloc, HEAD)?,
+        charges,
+        out,
         flows: 0,
     };
-    let log = recording.history.log();
-    for place in 0..log.len() {
-        if let Some(entry) = log.get(place) {
-            writer.push(alloc, recording, place, entry)?;
-        }
-    }
-    let Writer { mut out, .. } = writer;
-    out.push_str("\n]}\n")?;
+    writer.push_all(alloc, recording)?;
+    let Writer { out, .. } = writer;
     Ok(out)
 }
 

@@ -4,7 +4,7 @@ use crate::elements::{close_text, open_centred, open_rect, open_text, push_text,
 use crate::head::prefix_of;
 use crate::layout::{Band, Column, Layout, MARGIN, STEP_ROW, Span, charges_between, column_at};
 use crate::limits::push_limit;
-use crate::model::{Arrow, Lane, Scene};
+use crate::scene::{Arrow, Lane, Scene};
 use crate::signs::push_marks_in;
 use crate::titles::{kind_of, push_change, push_charge_title};
 use esr_history::MAX_LIMIT;

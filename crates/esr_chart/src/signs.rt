@@ -2,7 +2,7 @@
 
 use crate::elements::{close_text, open_centred, push_circle, push_cross, push_square};
 use crate::layout::{Band, Column};
-use crate::model::{Action, Cause, Lane, Scene};
+use crate::scene::{Action, Cause, Lane, Scene};
 use crate::titles::push_mark_title;
 use esr_text::{push_number, push_value};
 use std::alloc::AllocError;

@@ -1,23 +1,7 @@
 //! The content of a timeline as plain data: lanes, marks on them in the order of the log, and charges between lanes.
 
-use esr_history::{History, TxnId};
-use esr_items::Weighted;
-use esr_outcomes::{Auditor, TxnKind, TxnOutcome};
-use esr_report::Names;
-
-/// A script that has been run.
-#[derive(Clone, Copy)]
-pub struct Source<'a> {
-    /// The names of the items, in the order of their numbers, from 0.
-    pub items: &'a Names,
-    /// The names of the transactions, in the order of their numbers, from 1.
-    pub transactions: &'a Names,
-    pub history: &'a History<Weighted>,
-    /// The auditor of the history.
-    pub auditor: &'a Auditor<'a>,
-    /// The line of each entry of the history, from 1.
-    pub lines: &'a [u32],
-}
+use esr_history::TxnId;
+use esr_outcomes::{TxnKind, TxnOutcome};
 
 /// A lane: a transaction from its begin to its end.
 #[derive(Clone, Copy)]

@@ -2,7 +2,7 @@
 
 use crate::elements::push_rect;
 use crate::layout::{Band, charges_at_or_before, charges_between};
-use crate::model::{Arrow, Lane, Scene};
+use crate::scene::{Arrow, Lane, Scene};
 use esr_history::MAX_LIMIT;
 use std::alloc::AllocError;
 

@@ -6,7 +6,7 @@
 //! it shows this one if it is wider than high, also if it is narrow.
 
 use crate::elements::push_rect;
-use crate::model::{Lane, Scene};
+use crate::scene::{Lane, Scene};
 use crate::titles::push_outcome_words;
 use std::alloc::AllocError;
 

@@ -6,7 +6,7 @@
 //! lanes of the transactions that are active there.
 
 use crate::edges::{Edges, outcome_width, step_rows};
-use crate::model::{Action, Arrow, Lane, Mark};
+use crate::scene::{Action, Arrow, Lane, Mark};
 use crate::titles::kind_of;
 use esr_history::MAX_LIMIT;
 use esr_text::number_letters;

@@ -1,6 +1,6 @@
 //! The titles of marks and charges, which are shown when a pointer is over them.
 
-use crate::model::{Action, Arrow, Cause, Lane, Mark};
+use crate::scene::{Action, Arrow, Cause, Lane, Mark};
 use esr_outcomes::TxnKind;
 use esr_text::{push_number, push_value};
 use esr_trace::outcome_words;

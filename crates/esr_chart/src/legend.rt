@@ -3,7 +3,7 @@
 use crate::elements::{push_circle, push_cross, push_rect, push_square, push_text};
 use crate::layout::{Band, Layout, MARGIN};
 use crate::limits::has_bar;
-use crate::model::{Action, Lane, Scene};
+use crate::scene::{Action, Lane, Scene};
 use esr_outcomes::TxnOutcome;
 use std::alloc::AllocError;
 

@@ -1,7 +1,7 @@
 //! The right edges of the texts of a band, from which the columns get their distances.
 
 use crate::layout::{Column, GAP, width_of};
-use crate::model::{Action, Arrow, Lane, Mark};
+use crate::scene::{Action, Arrow, Lane, Mark};
 use esr_text::{letters_of, number_letters};
 use esr_trace::outcome_words;
 use std::alloc::{AllocError, Global};

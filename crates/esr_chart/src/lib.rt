@@ -1,0 +1,29 @@
+//! Draws a timeline, given its content as plain data: lanes, marks on them in the order of the log, and charges between
+//! lanes.
+//!
+//! The width of each text is computed in advance, and `layout` places the columns so that no two texts overlap, in several
+//! bands one below another if they do not fit in one. `esr_timeline` chooses the content and reads the history; this crate
+//! does not, so both are proved in parallel with other libraries. Rejected: a narrow layout alone, which is too tall for a
+//! screen.
+#![tactic(auto)]
+
+mod bands;
+mod edges;
+mod elements;
+mod head;
+mod layout;
+mod legend;
+mod limits;
+mod scene;
+mod signs;
+mod titles;
+
+pub use bands::push_bands;
+pub use elements::push_text;
+pub use head::{
+    Size, Sizes, open_narrow, prefix_of, push_attributes, push_background, push_head,
+    push_heading_words,
+};
+pub use layout::{Band, Drawn, Format, Layout, MARGIN, Spacing, layout_of};
+pub use legend::{legend_height, push_legend};
+pub use scene::{Action, Arrow, Cause, Lane, Mark, Order, Relation, Rest, Scene};
