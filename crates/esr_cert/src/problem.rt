@@ -83,12 +83,12 @@ pub struct ProblemParts {
     pub must: Vec<u32>,
 }
 
-/// Valid parts, with the arrays of their network.
+/// A closure problem: to find a closed set of updates of least cost. It has valid parts, and the arrays of their network.
 ///
-/// Shape: no number occurs twice in `updates`; `before` is sorted
-/// lexicographically, and the first of each pair is below the second; the items of the chains ascend; in each chain the
-/// writers ascend, consecutive writers are a pair of `before`, and there is one more cost than writers; `must` ascends. Range: an update's number is 1 to 65,535; an item's number is at most 4,095; the positions
-/// in `before`, `must` and the writers are below the count of updates; and the sum of the chains'
+/// Shape: no number occurs twice in `updates`; `before` is sorted lexicographically, and the first of each pair is below the
+/// second; the items of the chains ascend; in each chain the writers ascend, consecutive writers are a pair of `before`, and
+/// there is one more cost than writers; `must` ascends. Range: an update's number is 1 to 65,535; an item's number is at most
+/// 4,095; the positions in `before`, `must` and the writers are below the count of updates; and the sum of the chains'
 /// maximum costs is at most 2,000,000,000,000,000,000.
 #[derive(Drop)]
 pub struct Problem {

@@ -1,5 +1,5 @@
--- When a history has capacity for an event in addition to the ends of the active transactions, and that it is never
--- stuck.
+-- Whether a history has capacity for an event, with one entry reserved for the end of each active transaction. So an active
+-- transaction can always commit or abort.
 use Rattle.std.specs.Prelude.{◌≡◌, ◌+◌, ◌-◌, ◌≤◌, ℕ, Bool, true, false, not, ◌&&◌, ◌||◌, nat_le, nat_lt, List, length, count_by}
 use Rattle.esr_base.specs.declared.limits.TheConstants.{MAX_ENTRIES, MAX_TRANSACTIONS}
 use Rattle.esr_base.specs.declared.numbers.TxnId.{TxnId}
@@ -23,7 +23,7 @@ taken h = length h.entries + active_count (accepted_in h)
 abbrev pub transaction_count : Schedule → ℕ
 transaction_count h = length (begin_records (accepted_in h))
 
--- a begin needs an entry and one for its end, and a number
+-- whether there is no capacity for a begin, which needs an entry, another one for its end, and a transaction number
 abbrev pub no_begin : Schedule → Bool
 no_begin h = nat_lt MAX_ENTRIES (taken h + 2) || nat_le MAX_TRANSACTIONS (transaction_count h)
 

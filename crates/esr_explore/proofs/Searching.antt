@@ -1,4 +1,4 @@
--- The tale of one more order, and that each order has one.
+-- The summary of one more order, and that each order has one.
 use Rattle.std.proofs.Common.{◌≡◌, ℕ, ℤ, zero, suc, ◌+◌, ◌<◌, List, [], ◌∷◌, ◌++◌, Option, Some, IfSome, ap, arith, get_or, length, length-append, refl, subst, sum, sym, take, Vec, map}
 use Rattle.std.specs.List.{Contains}
 use Rattle.std.specs.declared.alloc.Global.{Global}
@@ -20,7 +20,7 @@ one_more opening weights blocks queries [] (u ∷ summaries) o t are is = absurd
 one_more opening weights blocks queries (p ∷ orders) [] o t are is = absurd are
 one_more opening weights blocks queries (p ∷ orders) (u ∷ summaries) o t are is = (are.0, one_more opening weights blocks queries orders summaries o t are.1 is)
 
--- the tales of the orders so far, and of the next one
+-- the summaries of the orders so far, and of the next one
 pub summaries_more : (opening : List ℤ) (weights : List ℕ) (blocks : List (List Call)) (queries : List Query) (orders : List (List ℕ)) (i : ℕ) (o d : List ℕ) (summaries new : List RunSummary) (t : RunSummary)
     → i < length orders → AreRunSummaries opening weights blocks queries (take i orders) summaries → o ≡ get_or orders i d → IsSummary opening weights blocks queries o t
     → new ≡ summaries ++ t ∷ [] → AreRunSummaries opening weights blocks queries (take (i + 1) orders) new
@@ -30,7 +30,7 @@ summaries_more opening weights blocks queries orders i o d summaries new t withi
     (subst (λ (l : List (List ℕ)). AreRunSummaries opening weights blocks queries l (summaries ++ t ∷ [])) (sym (take_more orders i d within))
     (one_more opening weights blocks queries (take i orders) summaries (get_or orders i d) t are own))
 
--- each order has its tale
+-- each order has its summary
 pub summary_among : (opening : List ℤ) (weights : List ℕ) (blocks : List (List Call)) (queries : List Query) (orders : List (List ℕ)) (summaries : List RunSummary) (o : List ℕ)
     → AreRunSummaries opening weights blocks queries orders summaries → Contains orders o → (t : RunSummary) × (Contains summaries t × IsSummary opening weights blocks queries o t)
 summary_among opening weights blocks queries [] summaries o are (k, lt, is) = absurd (omega (arith, lt))
@@ -69,7 +69,7 @@ pub drawn_none : (opening : List ℤ) (weights : List ℕ) (blocks : List (List 
     → AreDrawn opening weights blocks queries counts 0 []
 drawn_none opening weights blocks queries counts = record { orders = []; number = refl; drawn = λ k d lt. absurd (omega (arith, lt)); inconsistencies = tt }
 
--- one more order, and its tale
+-- one more order, and its summary
 pub drawn_more : (opening : List ℤ) (weights : List ℕ) (blocks : List (List Call)) (queries : List Query) (counts : List ℕ) (many : ℕ) (summaries new : List RunSummary) (o : List ℕ) (t : RunSummary)
     → AreDrawn opening weights blocks queries counts many summaries → IsOrder counts (sum counts) o → IsSummary opening weights blocks queries o t
     → new ≡ summaries ++ t ∷ [] → AreDrawn opening weights blocks queries counts (many + 1) new

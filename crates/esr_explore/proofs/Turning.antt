@@ -7,7 +7,7 @@ use Rattle.esr_history.specs.declared.event.Reply.{Reply}
 use Rattle.esr_history.specs.Machine.{Schedule}
 use Rattle.esr_plan.specs.declared.call.Call.{Call}
 use Rattle.esr_plan.specs.Calls.{AreAnswered}
-use Rattle.esr_explore.specs.Turns.{AreDone, IsRun, BlockProgressView, RunState, begun, no_progress, run_state, turn, turns}
+use Rattle.esr_explore.specs.Turns.{AreDone, IsRun, BlockProgressView, RunState, initial_run_state, no_progress, run_state, turn, turns}
 
 -- one turn after others
 pub then_turn : (blocks : List (List Call)) (s : RunState) (rest : List ℕ) (b : ℕ) → turns blocks s (rest ++ b ∷ []) ≡ turn blocks (turns blocks s rest) b
@@ -39,12 +39,12 @@ one_new_runner n rs new r rs_is r_is new_is =
 
 -- the start of a run
 pub started : (opening : List ℤ) (weights : List ℕ) (blocks : List (List Call)) (h : Schedule) (rs : List BlockProgressView) (n : ℕ)
-    → h ≡ (begun opening weights blocks).history → rs ≡ map (λ _. no_progress) (range_with_len 0 n) → n ≡ length blocks → run_state h rs ≡ begun opening weights blocks
+    → h ≡ (initial_run_state opening weights blocks).history → rs ≡ map (λ _. no_progress) (range_with_len 0 n) → n ≡ length blocks → run_state h rs ≡ initial_run_state opening weights blocks
 started opening weights blocks h rs n h_is rs_is n_is = ap₂ run_state h_is (rs_is ∙ ap (λ (m : ℕ). map (λ _. no_progress) (range_with_len 0 m)) n_is)
 
 -- the turns of an order and those after them are a run, if each block has then executed each of its lines
 pub ran : (opening : List ℤ) (weights : List ℕ) (blocks seen : List (List Call)) (order : List ℕ) (start mid : RunState) (h closed : Schedule) (rs : List BlockProgressView)
-    → seen ≡ blocks → start ≡ begun opening weights blocks → mid ≡ turns seen start order → ((rest : List ℕ) × (run_state h rs ≡ turns seen mid rest))
+    → seen ≡ blocks → start ≡ initial_run_state opening weights blocks → mid ≡ turns seen start order → ((rest : List ℕ) × (run_state h rs ≡ turns seen mid rest))
     → AreDone seen rs → closed ≡ h → IsRun opening weights blocks order (run_state closed rs)
 ran opening weights blocks seen order start mid h closed rs seen_is start_is mid_is (rest, end_is) done closed_is =
     let occurred : run_state h rs ≡ turns seen start (order ++ rest) = end_is ∙ (ap (λ (s : RunState). turns seen s rest) mid_is ∙ sym (then_turns seen start order rest)) in

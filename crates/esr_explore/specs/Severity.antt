@@ -24,10 +24,10 @@ severity_of Import run_summary = greatest (map (amount_of Import) run_summary.in
 severity_of Distance run_summary = greatest (map (amount_of Distance) run_summary.inconsistencies.items)
 severity_of Blocked run_summary = saturated_u64 (sum run_summary.blocked_counts.items)
 
--- the number of the first of the greatest, and 0 if the list is empty
+-- the position, from 0, of the first occurrence of the maximum; 0 if the list is empty
 abbrev pub first_greatest : List ℕ → ℕ
-first_greatest sizes = position_or_len (λ size. size == greatest sizes) sizes
+first_greatest numbers = position_or_len (λ n. n == greatest numbers) numbers
 
--- the number of the first run whose size is the maximum over the runs
+-- the position of the first run whose severity is the maximum over the runs
 abbrev pub worst_run : Measure → List RunSummary → ℕ
 worst_run measure summaries = first_greatest (map (severity_of measure) summaries)

@@ -37,7 +37,7 @@ pub record IsSummaryOf (end : RunState) (queries : List Query) (run_summary : Ru
   pub blocked : run_summary.blocked_counts.items ≡ map (λ r. r.blocked) end.blocks
   pub given_up : run_summary.given_up_counts.items ≡ map given_up_in end.blocks
 
--- The tale is of a run of these blocks: legal, and taken in turns that began with this order.
+-- The summary is of a run of these blocks: legal, and taken in turns that began with this order.
 pub record IsSummary (opening : List ℤ) (weights : List ℕ) (blocks : List (List Call)) (queries : List Query) (order : List ℕ)
     (run_summary : RunSummary) : Type 0 where
   pub end : RunState

@@ -62,6 +62,7 @@ pub record RunState : Type 0 where
 abbrev pub run_state : Schedule → List BlockProgressView → RunState
 run_state h all_progress = record { history = h; blocks = all_progress }
 
+-- the state after the turn of a block with these calls and this progress; unchanged if there is no such block
 abbrev pub turn_of : List Call → ℕ → RunState → Option BlockProgressView → RunState
 turn_of calls block before None = before
 turn_of calls block before (Some s) = record {
@@ -73,8 +74,9 @@ turn_of calls block before (Some s) = record {
 abbrev pub turn : List (List Call) → RunState → ℕ → RunState
 turn blocks before block = turn_of (slice_index_or blocks block []) block before (slice_get before.blocks block)
 
-abbrev pub begun : List ℤ → List ℕ → List (List Call) → RunState
-begun opening weights blocks =
+-- the state before the first turn: no entry, and no progress of any block
+abbrev pub initial_run_state : List ℤ → List ℕ → List (List Call) → RunState
+initial_run_state opening weights blocks =
     record { history = schedule_of opening weights []; blocks = map (λ _. no_progress) (range_with_len 0 (length blocks)) }
 
 -- these turns, one after another
@@ -87,9 +89,9 @@ AreDone blocks all_progress =
     (length all_progress ≡ length blocks)
     × ((k : ℕ) → k < length blocks → length (slice_index_or all_progress k no_progress).replies ≡ length (slice_index_or blocks k []))
 
--- The result of a run in which the blocks took their turns in this order, and then in some other until no block had a
--- line left.
+-- `end` is the state after a run: turns in the order `order`, then in the order `rest`, after which no block has a line
+-- left.
 pub record IsRun (opening : List ℤ) (weights : List ℕ) (blocks : List (List Call)) (order : List ℕ) (end : RunState) : Type 0 where
   pub rest : List ℕ
-  pub occurred : end ≡ turns blocks (begun opening weights blocks) (order ++ rest)
+  pub occurred : end ≡ turns blocks (initial_run_state opening weights blocks) (order ++ rest)
   pub done : AreDone blocks end.blocks

@@ -1,4 +1,4 @@
--- Worked examples: the queries of small blocks, sizes of runs, medians, and the lines about runs.
+-- Worked examples: the queries of small blocks, the severities of runs, medians, and the lines about runs.
 use Rattle.std.specs.Prelude.{◌≡◌, ℕ, List, [], ◌∷◌, ◌++◌, Some, None, codes, map, refl}
 use Rattle.std.specs.Fmt.{digits}
 use Rattle.std.proofs.Common.{Bor}
@@ -45,7 +45,7 @@ median_of_four = refl
 median_of_three : median (8 ∷ 8 ∷ 2 ∷ []) ≡ 8
 median_of_three = refl
 
--- of three last replies, one is that the line is blocked; a line that is refused for another reason is not given up
+-- a block of three lines, with the last reply to each: the blocked line was given up, the refused line was not
 lines_given_up : given_up_in (record {
   replies = Begun (txn 1) ∷ Refused (BlockedByLock (txn 2)) ∷ Refused NoSuchItem ∷ [];
   tries = 0;

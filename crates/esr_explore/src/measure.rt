@@ -1,6 +1,6 @@
 //! The measures of a run.
 
-/// The measure of the worst run.
+/// By what the worst run is chosen: the greatest import or distance of a query, or how often lines were blocked.
 #[derive(Clone, Copy)]
 pub enum Measure {
     Import,

@@ -12,7 +12,7 @@ ghost use Rattle.esr_base.specs.declared.limits.TheConstants.{MAX_ENTRIES};
 ghost use Rattle.esr_history.specs.Machine.{IsLegal};
 ghost use Rattle.esr_plan.specs.Plan.{weights_of};
 ghost use Rattle.esr_plan.specs.DrivePlans.{IsSound};
-ghost use Rattle.esr_explore.specs.Turns.{AreDone, IsRun, begun, no_progress, history_after, progress_after, next_event, run_state, turn, turns};
+ghost use Rattle.esr_explore.specs.Turns.{AreDone, IsRun, initial_run_state, no_progress, history_after, progress_after, next_event, run_state, turn, turns};
 
 use crate::progress::BlockProgress;
 use esr_core::{Machine, StepError};
@@ -169,7 +169,7 @@ fn finish(
 /// Creates a machine with the items and weights of a plan.
 fn machine_of(alloc: Global, drive_plan: &DrivePlan<'_>) -> Result<Machine<Weighted>, DriveFault>
     requires { IsSound drive_plan.now }
-    ensures { IfOk result (λ m. m ≡ (begun drive_plan.now.values.items (weights_of drive_plan.now.weights.items)
+    ensures { IfOk result (λ m. m ≡ (initial_run_state drive_plan.now.values.items (weights_of drive_plan.now.weights.items)
         (map (λ b. b.items) drive_plan.now.blocks.items)).history) }
 {
     let items = Store::of_valid(alloc, &drive_plan.values)?;

@@ -173,7 +173,8 @@ pub fn find_from_draft(alloc: Global, net: &Network) -> Result<FromDraft, NoMemo
     Ok(FromDraft { certificate, draft })
 }
 
-/// Finds the certificate of `find_from_draft`, without the outcome of the draft.
+/// Finds a certificate of the network's problem, from a draft of a flow (`find_from_draft`). Its augmentation count is
+/// `None`.
 pub fn find_certificate(alloc: Global, net: &Network) -> Result<Certificate, NoMemory>
     ensures certifies { IfOk result (λ c. Certifies net.now.problem.now (certificate_of c)) }
     ensures least { IfOk result (λ c. IsSmallestLeastCostSet net.now.problem.now (in_set c.set.items)) }

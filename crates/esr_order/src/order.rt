@@ -53,8 +53,8 @@ impl From<AllocError> for OrderError {
     }
 }
 
-/// The updates that committed before a query, the conflict order among them, and the versions of the items that they
-/// leave. Updates are identified by their positions in commit order, which is a serial order of them.
+/// Updates that committed before a query, all of them or only the relevant ones; the conflict order among them; and the
+/// versions of the items that they leave. Updates are identified by their positions in commit order, which is a serial order of them.
 #[derive(Drop)]
 pub struct Order {
     commits: Vec<TxnId>,

@@ -1,7 +1,7 @@
 //! Adds to a marked set the updates that precede its members.
 //!
-//! A predecessor of an update has a lower position in commit order, so one pass back along the updates closes the set. It
-//! records the items that the members after a position have read and written.
+//! A predecessor of an update has a lower position in commit order, so one pass back along the updates closes the set. The
+//! pass records the items that the marked updates visited so far, which are later in commit order, have read and written.
 ghost use Rattle.std.specs.Prelude.{◌≡◌, ◌<◌, ◌||◌, ℕ, ℤ, All, IfOk, false, length, map, true};
 ghost use Rattle.std.specs.List.{list_any};
 ghost use Rattle.esr_history.specs.Queries.{updates_committed_before, must};
@@ -23,7 +23,7 @@ fn is_marked(flags: &[bool], i: usize) -> bool
     flags.get(i).copied().unwrap_or(false)
 }
 
-/// Marks the items of these accesses, of the writes or of the reads.
+/// Sets the flag of each item that one of these accesses writes, if `writes` is true, or reads, if it is false.
 fn mark(flags: &mut [bool], accesses: &[Access], writes: bool)
     requires items { All (λ a. a.item.0 < length flags.old) accesses.now }
     ensures len { length flags.new ≡ length flags.old }
@@ -92,7 +92,7 @@ impl Later {
     }
 }
 
-/// Returns no accesses of these items.
+/// Returns a `Later` in which none of `items` items has been read or written.
 fn no_later(alloc: Global, items: u32) -> Result<Later, AllocError>
     ensures read_len { IfOk result (λ later. length later.read.items ≡ items) }
     ensures written_len { IfOk result (λ later. length later.written.items ≡ items) }
@@ -104,6 +104,7 @@ fn no_later(alloc: Global, items: u32) -> Result<Later, AllocError>
     Ok(Later { read, written })
 }
 
+/// Returns whether an update has been marked, now or before.
 fn is_more(more: bool, is_member: bool, was_member: bool) -> bool {
     more || is_member != was_member
 }

@@ -35,11 +35,14 @@ pub struct Row {
     pub distance: Option<u64>,
 }
 
-/// The columns of all transactions.
+/// The columns of all transactions, by their numbers.
 #[derive(Drop)]
 struct Columns {
+    /// The first is that of transaction 1.
     kinds: Vec<TxnKind>,
+    /// The first is of no transaction; transaction 1 has the second.
     tallies: Vec<Tally>,
+    /// The first is of no transaction; transaction 1 has the second.
     exports: Vec<u64>,
 }
 
