@@ -1,6 +1,6 @@
 -- The operations of active transactions: what another entry does not yield, and how many active transactions come before
 -- one.
-use Rattle.std.proofs.Common.{◌≡◌, ℕ, zero, suc, ◌+◌, ◌<◌, ◌≤◌, Bool, true, false, cond, ◌&&◌, List, [], ◌∷◌, ◌++◌, take, length, map, filter, sum_by, count_by, get_or, nat_lt, refl, sym, ◌∙◌, ap, arith, Option, None, Some, option_map, slice_get, if◌then◌else◌}
+use Rattle.std.proofs.Common.{◌≡◌, ℕ, zero, suc, ◌<◌, ◌≤◌, Bool, true, false, cond, ◌&&◌, List, [], ◌∷◌, length, map, filter, sum_by, count_by, get_or, refl, sym, ◌∙◌, ap, arith, Option, None, if◌then◌else◌}
 use Rattle.std.specs.List.{AllByRecursion, filter_map, cons_option}
 use Rattle.std.specs.List.Sorted.{IsNonDecreasingBy, IsPartitionPoint}
 use Rattle.std.proofs.lemmas.List.Sums.{sum_by-cons}
@@ -11,14 +11,14 @@ use Rattle.esr_history.specs.declared.event.Entry.{Entry}
 use Rattle.esr_history.specs.declared.event.BeginKind.{BeginKind}
 use Rattle.esr_history.specs.declared.event.BeginKind.TheVariants.{Update, Query}
 use Rattle.esr_history.specs.declared.event.Reply.{Reply}
-use Rattle.esr_history.specs.Events.{begin_record_of, is_active, is_query, is_refusal, is_update}
+use Rattle.esr_history.specs.Events.{is_active, is_query, is_refusal, is_update}
 use Rattle.esr_history.specs.Machine.{Schedule, accepted_in}
 use Rattle.esr_history.specs.ReportBounds.{is_active_query}
 use Rattle.esr_history.proofs.Membership.{Pairs}
 use Rattle.esr_core.specs.Carried.{active_numbers, carried_operation, carried_read}
 use Rattle.esr_renewal.proofs.Renumbered.{active_ascending}
 use Rattle.esr_engine.specs.declared.carrying.ActiveTxn.{ActiveTxn}
-use Rattle.esr_engine.specs.Carrying.{active_as, active_by, active_in, amount_to, begun_in, carried_entry, is_active_operation, is_of_active, open_amount, open_of}
+use Rattle.esr_engine.specs.Carrying.{active_as, active_in, amount_to, carried_entry, is_active_operation, is_of_active, open_amount, open_of}
 
 -- ---- lists
 
@@ -116,16 +116,3 @@ no_amount h query t e is = at (is_refusal e.reply) is
     at : (b : Bool) → (if b then false else is_active_operation h e.event) ≡ false → (if b then 0 else amount_to query (open_of weighted h e.event) t) ≡ 0
     at true is = refl
     at false is = ap (λ cs. amount_to query cs t) (idle h e.event is).charges ∙ none query
-
--- an entry that begins a transaction is none either
-pub no_begin : (h : Schedule) (t : ℕ) (e : Entry) (a : ActiveTxn) → Some a ≡ begun_in t e → is_of_active h e ≡ false
-no_begin h t e a is = at (is_refusal e.reply) e.event is
-  where
-    at : (b : Bool) (v : Event) → Some a ≡ (if b then None else option_map (active_by t) (begin_record_of v)) → (if b then false else is_active_operation h v) ≡ false
-    at true v is = refl
-    at false (BeginUpdate l) is = refl
-    at false (BeginQuery l s) is = refl
-    at false (Read u x) is = absurd (cc)
-    at false (Write u x v) is = absurd (cc)
-    at false (Commit u) is = refl
-    at false (Abort u) is = refl

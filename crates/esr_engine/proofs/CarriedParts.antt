@@ -1,9 +1,8 @@
 -- The parts of a renewal that carries the active transactions over.
-use Rattle.std.proofs.Common.{inl, subst, ◌≡◌, ℕ, ℤ, zero, suc, ◌+◌, ◌-◌, ◌<◌, ◌≤◌, Bool, true, false, not, cond, ◌==◌, nat_lt, nat_le, List, [], ◌∷◌, ◌++◌, take, drop, length, map, filter, sum_by, count_by, refl, sym, ◌∙◌, ap, arith, Option, None, Some, IfSome, slice_get, get_or, option_map, append-nil, if◌then◌else◌, append_assoc, add-one}
-use Rattle.std.specs.Prelude.{unwrap_or}
+use Rattle.std.proofs.Common.{inl, subst, ◌≡◌, ℕ, ℤ, zero, suc, ◌+◌, ◌-◌, ◌<◌, ◌≤◌, Bool, true, false, not, cond, ◌==◌, nat_lt, nat_le, List, [], ◌∷◌, ◌++◌, take, drop, length, map, filter, sum_by, count_by, refl, sym, ◌∙◌, ap, arith, Option, None, Some, IfSome, slice_get, get_or, append-nil, if◌then◌else◌, append_assoc, add-one}
 use Rattle.std.specs.List.{filter_map, cons_option, range_with_len}
 use Rattle.std.proofs.lemmas.Bool.{leb-false}
-use Rattle.std.proofs.lemmas.List.{map-append, length-map, length_push, map_more, get_or-map}
+use Rattle.std.proofs.lemmas.List.{map-append, length-map, map_more, get_or-map}
 use Rattle.std.proofs.lemmas.List.Elements.{filter_map-append, filter-append}
 use Rattle.std.proofs.lemmas.List.Sums.{sum_by-cons, sum_by-append, count_by-le-length, length-filter}
 use Rattle.std.proofs.lemmas.List.FromFn.{length-range_with_len}
@@ -23,12 +22,11 @@ use Rattle.esr_history.specs.declared.event.Reply.TheVariants.{Begun}
 use Rattle.esr_history.specs.declared.event.BeginKind.{BeginKind}
 use Rattle.esr_history.specs.declared.event.BeginKind.TheVariants.{Update, Query}
 use Rattle.esr_history.specs.Queries.{is_strict}
-use Rattle.esr_history.specs.Events.{BeginRecord, accepted, begin_record, begin_record_of, begin_records, limit_of, is_active, is_query, is_refusal, txn_numbers, committed_value, current_value}
+use Rattle.esr_history.specs.Events.{accepted, begin_records, limit_of, is_active, is_query, is_refusal, txn_numbers, committed_value, current_value}
 use Rattle.esr_history.specs.Machine.{Charge, DistanceFunction, IsLegal, Schedule, accepted_in, no_item, reasons, writer}
 use Rattle.esr_history.specs.ReportBounds.{is_active_query}
 use Rattle.esr_history.proofs.Charges.{range-push}
-use Rattle.esr_history.proofs.Membership.{In, In-append_right, In-of_filter, get_seam}
-use Rattle.esr_history.proofs.Versions.{filter_push_true, filter_push_false}
+use Rattle.esr_history.proofs.Membership.{In, In-append_right, In-of_filter}
 use Rattle.esr_history.proofs.Allowed.{NoneApplies, read_allowed, write_allowed}
 use Rattle.esr_history.proofs.LegalWellFormed.{when_none}
 use Rattle.esr_history.proofs.WithinRanges.{legal_begins}
@@ -41,7 +39,7 @@ use Rattle.esr_engine.proofs.ActiveOperations.{filtered, filtered_sum, no_amount
 use Rattle.esr_engine.specs.Accounts.{charged_to}
 use Rattle.esr_engine.specs.declared.carrying.ActiveTxn.{ActiveTxn}
 use Rattle.esr_engine.specs.declared.carrying.CarriedTxn.{CarriedTxn}
-use Rattle.esr_engine.specs.Carrying.{active_as, active_by, active_in, active_operations, amount_to, begun_in, carried_as, carried_entry, carried_in, is_of_active, open_amount, open_of, operation_entry, read_entry, uncommitted_distance}
+use Rattle.esr_engine.specs.Carrying.{active_as, active_in, active_operations, amount_to, carried_as, carried_entry, carried_in, is_of_active, open_amount, open_of, operation_entry, read_entry, uncommitted_distance}
 
 -- ---- lists
 
@@ -219,72 +217,6 @@ entries_are h operations are =
 
 -- ---- the active transactions
 
-abbrev begin_in : Entry → Option BeginRecord
-begin_in e = if is_refusal e.reply then None else begin_record_of e.event
-
-records_as : (es : List Entry) → begin_records (accepted es) ≡ filter_map begin_in es
-records_as [] = refl
-records_as (e ∷ es) = at (is_refusal e.reply) (records_as es)
-  where
-    at : (b : Bool) → begin_records (accepted es) ≡ filter_map begin_in es
-        → begin_records (map (λ (e : Entry). e.event) (cond (not b) (e ∷ filter (λ (n : Entry). not (is_refusal n.reply)) es) (filter (λ (n : Entry). not (is_refusal n.reply)) es)))
-        ≡ cons_option (if b then None else begin_record_of e.event) (filter_map begin_in es)
-    at true rest = rest
-    at false rest = ap (cons_option (begin_record_of e.event)) rest
-
-begun_as : (t : ℕ) (e : Entry) → begun_in t e ≡ option_map (active_by t) (begin_in e)
-begun_as t e = at (is_refusal e.reply)
-  where
-    at : (b : Bool) → (if b then None else option_map (active_by t) (begin_record_of e.event)) ≡ option_map (active_by t) (if b then None else begin_record_of e.event)
-    at true = refl
-    at false = refl
-
-pub record IsNext (h : Schedule) (i n : ℕ) (a : ActiveTxn) : Type 0 where
-  pub begun : n + 1 ≡ length (begin_records (accepted (take (i + 1) h.entries)))
-  pub is : a ≡ active_as h (n + 1)
-
-pub active_next : (h : Schedule) (i n : ℕ) (e : Entry) → slice_get h.entries i ≡ Some e → n ≡ length (begin_records (accepted (take i h.entries))) → (a : ActiveTxn) → Some a ≡ begun_in (n + 1) e → IsNext h i n a
-active_next h i n e at count a is = with_begin (begin_in e) refl (is ∙ begun_as (n + 1) e)
-  where
-    with_begin : (o : Option BeginRecord) → begin_in e ≡ o → Some a ≡ option_map (active_by (n + 1)) o → IsNext h i n a
-    with_begin None none f = absurd (cc)
-    with_begin (Some b) some f =
-        let front : List BeginRecord = filter_map begin_in (take i h.entries) in
-        let grown : filter_map begin_in (take (i + 1) h.entries) ≡ front ++ b ∷ [] = yields_next begin_in h.entries i e at ∙ ap (λ o. front ++ cons_option o []) some in
-        let long : length (front ++ b ∷ []) ≡ length front + 1 = length_push front b in
-        let counted : n ≡ length front = count ∙ ap length (records_as (take i h.entries)) in
-        let all : filter_map begin_in h.entries ≡ front ++ b ∷ filter_map begin_in (drop (suc i) h.entries) =
-        ap (filter_map begin_in) (parts_at h.entries i e at) ∙ (filter_map-append begin_in (take i h.entries) (e ∷ drop (suc i) h.entries) ∙ ap (λ o. front ++ cons_option o (filter_map begin_in (drop (suc i) h.entries))) some) in
-        let found : begin_record (accepted_in h) (n + 1) ≡ Some b =
-        ap (begin_record (accepted_in h)) (add-one n) ∙ (ap (λ bs. slice_get bs n) (records_as h.entries ∙ all) ∙ (ap (slice_get (front ++ b ∷ filter_map begin_in (drop (suc i) h.entries))) counted ∙ get_seam front b (filter_map begin_in (drop (suc i) h.entries)))) in
-        let same : a ≡ active_by (n + 1) b = same_Some a (active_by (n + 1) b) f in
-        let ends : n + 1 ≡ length (begin_records (accepted (take (i + 1) h.entries))) =
-        ap (λ k. k + 1) counted ∙ (sym long ∙ (ap length (sym grown) ∙ ap length (sym (records_as (take (i + 1) h.entries))))) in
-        record {
-          begun = ends;
-          is = same ∙ sym (as_begun b found);
-        }
-      where
-        as_begun : (b : BeginRecord) → begin_record (accepted_in h) (n + 1) ≡ Some b → active_as h (n + 1) ≡ active_by (n + 1) b
-        as_begun b found =
-            ap (λ (o : Option BeginRecord). record {
-              txn = record { 0 = n + 1 };
-              query = unwrap_or (option_map (λ b. b.query) o) false;
-              limit = unwrap_or (option_map (λ b. b.limit) o) 0;
-              strict = unwrap_or (option_map (λ b. b.strict) o) false;
-            }) found
-
-pub none_next : (h : Schedule) (i n : ℕ) (e : Entry) → slice_get h.entries i ≡ Some e → n ≡ length (begin_records (accepted (take i h.entries))) → None ≡ begun_in (n + 1) e
-    → n ≡ length (begin_records (accepted (take (i + 1) h.entries)))
-none_next h i n e at count is = with_begin (begin_in e) refl (is ∙ begun_as (n + 1) e)
-  where
-    with_begin : (o : Option BeginRecord) → begin_in e ≡ o → None ≡ option_map (active_by (n + 1)) o → n ≡ length (begin_records (accepted (take (i + 1) h.entries)))
-    with_begin (Some b) some f = absurd (cc)
-    with_begin None none f =
-        let front : List BeginRecord = filter_map begin_in (take i h.entries) in
-        let grown : filter_map begin_in (take (i + 1) h.entries) ≡ front = yields_next begin_in h.entries i e at ∙ (ap (λ o. front ++ cons_option o []) none ∙ append-nil front) in
-        count ∙ (ap length (records_as (take i h.entries)) ∙ (ap length (sym grown) ∙ ap length (sym (records_as (take (i + 1) h.entries)))))
-
 active_more : (h : Schedule) (n : ℕ) → filter (is_active (accepted_in h)) (range_with_len 1 (n + 1)) ≡ filter (is_active (accepted_in h)) (range_with_len 1 n) ++ cond (is_active (accepted_in h) (1 + n)) ((1 + n) ∷ []) []
 active_more h n = ap (filter (is_active (accepted_in h))) (range-push 1 n) ∙ filter-append (is_active (accepted_in h)) (range_with_len 1 n) ((1 + n) ∷ [])
 
@@ -305,12 +237,6 @@ active_skip h n act =
     ap (map (active_as h)) (active_more h n ∙ (ap (λ b. filter (is_active (accepted_in h)) (range_with_len 1 n) ++ cond b ((1 + n) ∷ []) []) act' ∙ append-nil (filter (is_active (accepted_in h)) (range_with_len 1 n))))
 
 -- ---- the lists that are pushed
-
-pub kept_next : {X : Type 0} (p : X → Bool) (es : List X) (i : ℕ) (e : X) → slice_get es i ≡ Some e → p e ≡ true → filter p (take (i + 1) es) ≡ filter p (take i es) ++ e ∷ []
-kept_next p es i e at passes = ap (filter p) (take_next es i e at) ∙ filter_push_true p (take i es) e passes
-
-pub skipped_next : {X : Type 0} (p : X → Bool) (es : List X) (i : ℕ) (e : X) → slice_get es i ≡ Some e → p e ≡ false → filter p (take (i + 1) es) ≡ filter p (take i es)
-skipped_next p es i e at fails = ap (filter p) (take_next es i e at) ∙ filter_push_false p (take i es) e fails
 
 pub pushed : {X Y : Type 0} (f : X → Option Y) (es : List X) (i : ℕ) (e : X) (first old new : List Y) (y : Y) → slice_get es i ≡ Some e → Some y ≡ f e → old ≡ first ++ filter_map f (take i es) → new ≡ old ++ y ∷ []
     → new ≡ first ++ filter_map f (take (i + 1) es)

@@ -9,5 +9,6 @@ pub mod Locking
 pub mod RenewalLaws
 pub mod Reports
 pub mod ActiveOperations
+pub mod ActivePlaces
 pub mod CarriedParts
 pub mod CarriedEngine

@@ -1,5 +1,5 @@
 -- The parts of a renewal that carries the active transactions over.
-use Rattle.std.specs.Prelude.{ℕ, Bool, false, List, [], Option, None, filter, map, option_map, if◌then◌else◌}
+use Rattle.std.specs.Prelude.{◌≡◌, ◌<◌, ℕ, Bool, true, false, List, [], Option, None, Some, Contains, filter, length, map, option_map, slice_get, if◌then◌else◌}
 use Rattle.esr_history.specs.declared.event.Event.{Event}
 use Rattle.esr_history.specs.declared.event.Entry.{Entry}
 use Rattle.esr_history.specs.declared.event.Event.TheVariants.{Read, Write}
@@ -10,6 +10,7 @@ use Rattle.esr_history.specs.Machine.{DistanceFunction, Schedule, Charge, accept
 use Rattle.esr_history.specs.Queries.{is_strict}
 use Rattle.esr_history.specs.ReportBounds.{is_active_query}
 use Rattle.esr_core.specs.Carried.{active_numbers, carried_operation, carried_read, new_number, settled}
+use Rattle.esr_engine.specs.declared.carrying.ActiveEntries.{ActiveEntries}
 use Rattle.esr_engine.specs.declared.carrying.ActiveTxn.{ActiveTxn}
 use Rattle.esr_engine.specs.declared.carrying.CarriedTxn.{CarriedTxn}
 
@@ -45,6 +46,12 @@ is_of_active h e = if is_refusal e.reply then false else is_active_operation h e
 
 abbrev pub active_operations : Schedule → List Entry
 active_operations h = filter (is_of_active h) h.entries
+
+-- the active transactions, and indices of entries, among them the index of each of their operations
+pub record AreActiveEntries (h : Schedule) (active : ActiveEntries) : Type 0 where
+  pub txns : active.txns.items ≡ active_in h
+  pub inside : (i : ℕ) → Contains active.places.items i → i < length h.entries
+  pub operations : (i : ℕ) (e : Entry) → slice_get h.entries i ≡ Some e → is_of_active h e ≡ true → Contains active.places.items i
 
 -- the charges of a read if it is repeated now
 abbrev pub open_of : DistanceFunction → Schedule → Event → List Charge

@@ -1,27 +1,28 @@
 //! The parts of a renewal that carries the active transactions over: how they began, their settled amounts, the entries
 //! with which the new history begins, and the replay of these entries.
 //!
-//! One pass over the log collects the active transactions and their operations. All else works on these lists, which are
-//! short if few entries are of active transactions.
+//! A pass over the transaction numbers finds the active transactions, and the links of the log find their entries, which
+//! are then sorted. All else works on these lists, which are short if few entries are of active transactions. Rejected:
+//! a pass over the log, which took 11 ns for each entry, while all threads of a bank wait.
 
-ghost use Rattle.std.specs.Prelude.{◌≡◌, ◌+◌, ◌-◌, ◌<◌, ◌≤◌, ◌&&◌, ◌++◌, ◌==◌, Some, count_by, nat_lt, if◌then◌else◌, length, map, filter_map, slice_get, IfOk, IfSome, OnOk};
+ghost use Rattle.std.specs.Prelude.{◌≡◌, ◌+◌, ◌-◌, ◌<◌, ◌≤◌, ◌&&◌, ◌++◌, ◌∷◌, ◌==◌, ℕ, List, Some, true, count_by, nat_lt, if◌then◌else◌, length, map, filter, filter_map, reverse, slice_get, IfOk, IfSome, OnOk};
 ghost use Rattle.std.specs.List.Sorted.{IsNonDecreasingBy};
 ghost use Rattle.esr_base.specs.declared.limits.TheConstants.{MAX_TRANSACTIONS};
 ghost use Rattle.esr_items.specs.Values.{IsValue};
 ghost use Rattle.esr_items.specs.Weights.{weighted};
-ghost use Rattle.esr_history.specs.BackLinks.{accepted_item};
-ghost use Rattle.esr_history.specs.Events.{is_active, is_update, is_query};
+ghost use Rattle.esr_history.specs.BackLinks.{accepted_item, accepted_txn, places_from};
+ghost use Rattle.esr_history.specs.Events.{is_active, is_begun, is_update, is_query};
 ghost use Rattle.esr_history.specs.Legal.{continued};
 ghost use Rattle.esr_history.specs.Machine.{IsLegalAfter, accepted_in};
 ghost use Rattle.esr_history.specs.ReportBounds.{is_active_query};
 ghost use Rattle.esr_core.specs.States.{begin_event};
 ghost use Rattle.esr_history.specs.declared.event.Reply.TheVariants.{Begun};
 ghost use Rattle.esr_core.specs.Carried.{active_numbers, carried, carried_begin, carried_entries, new_number, settled};
-ghost use Rattle.esr_engine.specs.Carrying.{active_in, active_operations, begun_in, carried_entry, carried_in, is_of_active, open_amount, operation_entry, read_entry, uncommitted_distance};
+ghost use Rattle.esr_engine.specs.Carrying.{active_as, active_in, active_operations, begun_in, carried_entry, carried_in, is_of_active, open_amount, operation_entry, read_entry, uncommitted_distance, AreActiveEntries};
 
 use crate::engine::EmbeddedEngine;
 use esr_core::Machine;
-use esr_history::{BeginKind, Entry, Event, NoMemory, Reply, TxnId};
+use esr_history::{BeginKind, Entry, Event, History, NoMemory, Reply, TxnId};
 use esr_items::{ItemId, Metric, Weighted};
 use std::alloc::{AllocError, Global};
 
@@ -39,6 +40,13 @@ pub struct ActiveTxn {
 pub(crate) struct ActivePart {
     pub(crate) txns: Vec<ActiveTxn>,
     pub(crate) operations: Vec<Entry>,
+}
+
+/// The active transactions in ascending order, and the indices of their accepted entries in any order.
+#[derive(Drop)]
+struct ActiveEntries {
+    txns: Vec<ActiveTxn>,
+    places: Vec<u64>,
 }
 
 /// A transaction that was carried over: its numbers in the old and in the new history, and the part of its limit and of
@@ -71,6 +79,33 @@ fn begun_in(txn: TxnId, entry: Entry) -> Option<ActiveTxn>
             strict,
         }),
         _ => None,
+    }
+}
+
+/// Appends the indices of the accepted entries of a transaction, from the last to the first.
+fn push_places(
+    history: &History<Weighted>,
+    t: TxnId,
+    places: &mut Vec<u64>,
+) -> Result<(), AllocError>
+    ensures { OnOk result (places.new.items
+        ≡ places.old.items ++ reverse (places_from accepted_txn t.0 0 history.now.schedule.entries)) }
+{
+    let mut next = history.last_of_txn(t);
+    while let Some(i) = next {
+        places.push(i)?;
+        next = history.earlier_of_txn(i);
+    }
+    Ok(())
+}
+
+/// Returns the last of these indices, or 0 if there are none.
+fn last_of(places: &[u64]) -> u64
+    ensures { (p : ℕ) (rest : List ℕ) → reverse places.now ≡ p ∷ rest → result ≡ p }
+{
+    match places.last() {
+        None => 0,
+        Some(place) => *place,
     }
 }
 
@@ -184,30 +219,58 @@ impl EmbeddedEngine {
         }
     }
 
+    /// Returns how a transaction began, given the index of its first accepted entry.
+    fn begun_at(&self, t: TxnId, place: u64) -> ActiveTxn
+        requires begun { is_begun (accepted_in self.now) t.0 ≡ true }
+        requires first { slice_get (places_from accepted_txn t.0 0 self.now.entries) 0 ≡ Some place }
+        ensures { result ≡ active_as self.now t.0 }
+    {
+        let _invariant = self.machine.log(); // brings the invariant into the proof
+        match begun_in(t, self.entry(place as usize)) {
+            Some(txn) => txn,
+            None => unreachable!(),
+        }
+    }
+
+    /// Returns the active transactions, and the indices of their accepted entries.
+    fn active_entries(&self, alloc: Global) -> Result<ActiveEntries, AllocError>
+        ensures { IfOk result (AreActiveEntries self.now) }
+    {
+        let _invariant = self.machine.log(); // brings the invariant into the proof
+        let mut txns = Vec::new(alloc);
+        let mut places = Vec::new(alloc);
+        for k in 0..self.count_begun() {
+            let t = TxnId(k as u32 + 1);
+            if self.is_active(t) {
+                push_places(self.machine.history(), t, &mut places)?;
+                txns.push(self.begun_at(t, last_of(&places)))?;
+            }
+        }
+        Ok(ActiveEntries { txns, places })
+    }
+
+    /// Returns the operations of active transactions among the entries at these indices.
+    fn operations_at(&self, alloc: Global, places: &[u64]) -> Result<Vec<Entry>, AllocError>
+        ensures { IfOk result (λ v. v.items
+            ≡ filter (is_of_active self.now) (filter_map (slice_get self.now.entries) places.now)) }
+    {
+        let log = self.machine.log();
+        places
+            .iter()
+            .filter_map(|i| log.get(*i as usize))
+            .filter(|entry| self.is_of_active(*entry))
+            .collect(alloc)
+    }
+
     /// Returns the active transactions and their operations.
     pub(crate) fn active_part(&self, alloc: Global) -> Result<ActivePart, AllocError>
         ensures txns { IfOk result (λ part. part.txns.items ≡ active_in self.now) }
         ensures operations { IfOk result (λ part. part.operations.items ≡ active_operations self.now) }
     {
-        let mut txns = Vec::new(alloc);
-        let mut operations = Vec::new(alloc);
-        let mut begun = 0u32;
-        for i in 0..self.machine.log().len() {
-            let entry = self.entry(i);
-            match begun_in(TxnId(begun + 1), entry) {
-                Some(txn) => {
-                    begun += 1;
-                    if self.is_active(txn.txn) {
-                        txns.push(txn)?;
-                    }
-                }
-                None => {
-                    if self.is_of_active(entry) {
-                        operations.push(entry)?;
-                    }
-                }
-            }
-        }
+        let ActiveEntries { txns, mut places } = self.active_entries(alloc)?;
+        places.sort_unstable();
+        places.dedup(); // brings into the proof that no index occurs twice
+        let operations = self.operations_at(alloc, &places)?;
         Ok(ActivePart { txns, operations })
     }
 

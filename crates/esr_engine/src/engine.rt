@@ -75,7 +75,7 @@ impl EmbeddedEngine {
     }
 
     /// Returns how many transactions have begun.
-    fn count_begun(&self) -> usize
+    pub(crate) fn count_begun(&self) -> usize
         ensures { result ≡ transaction_count self.now }
     {
         self.machine.history().begun_count()
