@@ -5,6 +5,7 @@ use crate::{
     Change, Observed, Observer, Store, StoreError,
     engine::MAX_TRANSACTIONS,
     interleave::{Depth, explore},
+    sync::park_timeout,
 };
 use std::{
     sync::{Arc, Mutex},
@@ -257,8 +258,8 @@ fn renewals_of_waiting_updates() {
     assert!(both.load(Ordering::Relaxed) > 0);
 }
 
-/// With an observer a blocked update is woken too, and its refusal names the transaction that blocks it, also when a renewal
-/// follows. (No schedule of this depth has the update sleep at the lock through its wake-up.)
+/// With an observer a blocked update is woken too, although the observer consumes a wake-up, and its refusal names the
+/// transaction that blocks it, also when a renewal follows.
 #[test]
 fn observed_blocks() {
     struct Names;
@@ -269,6 +270,8 @@ fn observed_blocks() {
                 _ => "holds",
             };
             assert_eq!(refused.other.as_deref(), Some(other), "{refused:?}");
+            // as if it waited for a lock
+            park_timeout(Duration::from_micros(1));
         }
     }
     let holds: Body = |bank| {
