@@ -1,6 +1,6 @@
 //! The load of `threads.h` over a `Bank`, with the same arguments and output, and one number more: the longest transaction
 //! during the commit and audit of a report, in microseconds. It compiles with older versions of the crate, too: `--cfg
-//! background` uses the second engine for audits, and `--cfg stepwise` runs updates step by step.
+//! locked` audits under the lock, and `--cfg stepwise` runs updates step by step.
 
 use esr::{Bank, Error};
 use std::{
@@ -97,8 +97,8 @@ fn main() {
     let period = Duration::from_millis(words[4].parse().expect("a number of milliseconds"));
     let names: Vec<String> = (0..ITEMS).map(|n| format!("i{n}")).collect();
     let builder = names.iter().fold(Bank::builder(), |builder, name| builder.item(name.clone(), 0));
-    #[cfg(background)]
-    let builder = builder.background_audits(true);
+    #[cfg(locked)]
+    let builder = builder.background_audits(false);
     let bank = builder.open().expect("the items are within the limits");
     let ended = AtomicBool::new(false);
     let begun = Instant::now();

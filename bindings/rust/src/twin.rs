@@ -11,26 +11,38 @@
 //! renewal, and the bank audits under its lock. So it does if the thread ends by a panic: requests are then dropped, which
 //! their callers notice.
 //!
-//! The log of a history is at most 16 MB. The thread sleeps until a report begins. At a renewal without pending audits the
-//! log is dropped, and the second engine restarts from the values; with pending ones, the logs of both histories are kept
-//! until they are made.
+//! The thread and the second engine start when the first report of the bank begins, so a bank without reports does not pay
+//! for them. They need the history from its opening. So each history is logged from there, but without a thread only up to
+//! [`MAX_LOGGED`] entries; a longer log is dropped. If the first report finds no log, the bank is renewed before the report
+//! begins, and the log restarts with the new history. No report is active then that this renewal could make inexact. Once the
+//! thread runs, each history is logged as a whole: at most 16 MB. If the thread cannot be started, or this renewal fails,
+//! nothing is logged until the next renewal, and audits hold the lock: neither is tried twice in a history.
+//!
+//! The thread sleeps until a report begins. At a renewal without pending audits the log is dropped, and the second engine
+//! restarts from the values; with pending ones, the logs of both histories are kept until they are made.
+//!
+//! Rejected: whole logs for banks that may never have a report; a renewal before the first report in any case, which would
+//! take the history from short programs that print it; reading the history back from the first engine, which would hold the
+//! lock as long as an audit does.
 
 use crate::{Engine, Error, Finding, Txn, sys};
 use std::{
     collections::VecDeque,
     mem,
     sync::{
-        Arc, Condvar, Mutex, MutexGuard, PoisonError,
+        Arc, Condvar, Mutex, MutexGuard, OnceLock, PoisonError,
         mpsc::{Receiver, Sender, channel},
     },
     thread::{self, JoinHandle},
 };
 
 /// The number of entries that are handed over at once.
-const PART: usize = 4_096;
-
+const PART: usize = if cfg!(test) { 8 } else { 4_096 };
 /// The capacity of a part for the rest of its last transaction.
 const ROOM: usize = 64;
+/// A log without a thread is dropped when it has this number of entries. The larger it is, the fewer banks are renewed before
+/// their first report; this one takes 1 MB, and is a fifteenth of the longest history.
+pub(crate) const MAX_LOGGED: usize = 16 * PART;
 /// The number of unused parts that are kept for their memory.
 const SPARE: usize = 256;
 
@@ -72,38 +84,96 @@ impl Between {
     }
 }
 
+/// What is logged of the history.
+#[derive(Clone, Copy, PartialEq, Eq, Debug)]
+enum Log {
+    /// All of it.
+    Whole,
+    /// Nothing more: the log was too long, and is dropped. The bank is renewed before a report begins.
+    Dropped,
+    /// Nothing more, although a report has begun.
+    Missed,
+}
+
 /// The bank's end, under its lock.
 pub(crate) struct Feed {
     entries: Vec<Entry>,
     between: Arc<Between>,
+    log: Log,
+    /// The number of entries of this history that were handed over.
+    handed_over: usize,
+    has_thread: bool,
 }
 
 impl Feed {
     pub(crate) fn push(&mut self, kind: u32, txn: u32, item: u32, value: i64) {
+        if self.log != Log::Whole {
+            return;
+        }
         self.entries.push(Entry {
             value,
             txn,
             item: item as u16,
             kind: kind as u8,
         });
-        if self.entries.len() >= PART {
-            self.hand_over();
-        }
+        self.end_part();
     }
 
     pub(crate) fn push_all(&mut self, events: &[sys::Event]) {
+        if self.log != Log::Whole {
+            return;
+        }
         self.entries.extend(events.iter().map(|event| Entry {
             value: event.value,
             txn: event.txn,
             item: event.item as u16,
             kind: event.kind as u8,
         }));
-        if self.entries.len() >= PART {
+        self.end_part();
+    }
+
+    /// Hands the entries over if there are enough. Without a thread it drops a log that has become too long.
+    fn end_part(&mut self) {
+        if self.entries.len() < PART {
+            return;
+        }
+        if !self.has_thread && self.handed_over + self.entries.len() >= MAX_LOGGED {
+            self.stop(Log::Dropped);
+        } else {
             self.hand_over();
         }
     }
 
+    /// Drops the log, and logs nothing more of this history. No audit is pending.
+    fn stop(&mut self, log: Log) {
+        self.log = log;
+        self.entries.clear();
+        self.entries.shrink_to(PART + ROOM);
+        self.between.lock().clear();
+    }
+
+    /// Prepares for a report that begins: `start` starts the thread, if it does not run. Reports whether the bank is renewed
+    /// first, because the log of this history was dropped.
+    pub(crate) fn begin_report(&mut self, start: impl FnOnce() -> bool) -> bool {
+        if self.has_thread || self.log == Log::Missed {
+            return false;
+        }
+        self.has_thread = start();
+        let was_dropped = self.log == Log::Dropped;
+        if was_dropped || !self.has_thread {
+            // whatever comes of it, it is not tried again in this history
+            self.stop(Log::Missed);
+        }
+        was_dropped && self.has_thread
+    }
+
+    /// Reports whether the second engine can audit reports of this history.
+    pub(crate) fn can_audit(&self) -> bool {
+        self.has_thread && self.log == Log::Whole
+    }
+
     fn hand_over(&mut self) {
+        self.handed_over += self.entries.len();
         let mut queue = self.between.lock();
         let empty = queue
             .spare
@@ -113,7 +183,7 @@ impl Feed {
         queue.add(Part::Entries(part));
     }
 
-    /// Requests the audit of a committed query, at this point of the log.
+    /// Requests the audit of a committed query, at this point of the log, which is whole.
     pub(crate) fn ask(&mut self, query: Txn) -> Receiver<Result<Finding, Error>> {
         self.hand_over();
         let (sender, receiver) = channel();
@@ -123,15 +193,14 @@ impl Feed {
         receiver
     }
 
-    /// Restarts the history from these values.
+    /// Restarts the log with a history of these opening values.
     pub(crate) fn renew(&mut self, values: Vec<i64>) {
         self.entries.clear();
+        self.log = Log::Whole;
+        self.handed_over = 0;
         let mut queue = self.between.lock();
         if queue.audits == 0 {
-            let old = mem::take(&mut queue.parts);
-            for part in old {
-                queue.keep(part);
-            }
+            queue.clear();
         }
         queue.add(Part::Renewed(values));
     }
@@ -145,6 +214,13 @@ impl Queue {
         }
         self.audits += usize::from(matches!(part, Part::Audit(..)));
         self.parts.push_back(part);
+    }
+
+    /// Removes all parts, and keeps their memory. No audit is among them.
+    fn clear(&mut self) {
+        for part in mem::take(&mut self.parts) {
+            self.keep(part);
+        }
     }
 
     /// Drops all parts and takes no more.
@@ -165,37 +241,56 @@ impl Queue {
     }
 }
 
-/// The auditing thread. It ends when this is dropped.
+/// The auditing thread, if it was started. It ends when this is dropped.
 pub(crate) struct Twin {
     between: Arc<Between>,
-    thread: Option<JoinHandle<()>>,
+    weights: Vec<u32>,
+    thread: OnceLock<JoinHandle<()>>,
 }
 
 impl Twin {
-    /// Opens a second engine for one that has just been opened, and the end that feeds it.
-    pub(crate) fn open(opening: &[i64], weights: &[u32]) -> Result<(Twin, Feed), Error> {
-        let engine = Engine::open_weighted(opening, weights)?;
-        Twin::start(Some(engine), weights)
-    }
-
-    /// Starts the thread, and returns the end that feeds it. Without an engine it begins at the next renewal.
-    pub(crate) fn start(engine: Option<Engine>, weights: &[u32]) -> Result<(Twin, Feed), Error> {
+    /// Returns the second engine of a bank that opens, without its thread, and the end that feeds it.
+    pub(crate) fn of(opening: &[i64], weights: &[u32]) -> (Twin, Feed) {
         let between = Arc::new(Between::default());
-        let mut auditor = Auditor {
-            engine,
-            weights: weights.to_vec(),
-            between: between.clone(),
-            events: Vec::new(),
-            replies: Vec::new(),
-        };
-        let thread = thread::Builder::new().name("esr audits".into());
-        let thread = thread.spawn(move || auditor.run());
-        let feed = Feed {
+        let mut feed = Feed {
             entries: Vec::with_capacity(PART + ROOM),
             between: between.clone(),
+            log: Log::Whole,
+            handed_over: 0,
+            has_thread: false,
         };
-        let thread = Some(thread.map_err(|_| Error::NoMemory)?);
-        Ok((Twin { between, thread }, feed))
+        feed.renew(opening.to_vec());
+        let twin = Twin {
+            between,
+            weights: weights.to_vec(),
+            thread: OnceLock::new(),
+        };
+        (twin, feed)
+    }
+
+    /// Starts the thread, which has not been started yet. Reports whether it runs.
+    pub(crate) fn start(&self) -> bool {
+        let (between, weights) = (self.between.clone(), self.weights.clone());
+        let run = move || {
+            let mut auditor = Auditor {
+                engine: None,
+                weights,
+                between,
+                events: Vec::new(),
+                replies: Vec::new(),
+            };
+            auditor.run();
+        };
+        let builder = thread::Builder::new().name("esr audits".into());
+        #[cfg(test)]
+        let builder = builder.stack_size(tests::STACK.get());
+        let thread = builder.spawn(run);
+        thread.is_ok_and(|thread| self.thread.set(thread).is_ok())
+    }
+
+    #[cfg(test)]
+    pub(crate) fn has_started(&self) -> bool {
+        self.thread.get().is_some()
     }
 
     /// Wakes the thread, for a report or an audit. The bank's lock is not held.
@@ -306,13 +401,20 @@ impl Auditor {
 }
 
 #[cfg(test)]
-mod tests {
+pub(crate) mod tests {
     use super::*;
-    use std::{sync::mpsc::RecvTimeoutError, time::Duration};
+    use std::{cell::Cell, sync::mpsc::RecvTimeoutError, time::Duration};
 
-    /// Opens a second engine over one item.
+    thread_local! {
+        /// The size of the stack of a second engine's thread. If it is too large, the thread cannot be started.
+        pub(crate) static STACK: Cell<usize> = const { Cell::new(1 << 20) };
+    }
+
+    /// Starts a second engine over one item.
     fn opened() -> (Twin, Feed) {
-        Twin::open(&[500], &[]).expect("one item")
+        let (twin, mut feed) = Twin::of(&[500], &[]);
+        assert!(!feed.begin_report(|| twin.start()) && feed.can_audit());
+        (twin, feed)
     }
 
     /// Logs an update and a report that read its work in progress, and returns the finding.

@@ -234,31 +234,6 @@ fn failing_work_does_not_stop_the_bank() {
     assert_eq!(bank.value("checking"), Ok(bank.metrics().updates as i64));
 }
 
-/// After the first renewal that follows a report, audits run in the background, and find what the bank explains.
-#[test]
-fn audits_move_to_the_background() -> Result<(), Error> {
-    let bank = two_accounts();
-    let look = || {
-        let (_, report) = bank.report_unaudited(0, |r| r.read("checking"))?;
-        let finding = bank.audit(report)?;
-        let text = bank.explain(report)?;
-        let end = format!("distance {} import {}\n", finding.distance, finding.import);
-        assert!(text.ends_with(&end), "{text}{finding}");
-        Ok::<_, Error>(finding.before.len())
-    };
-    fill(&bank, u64::from(esr::MAX_TRANSACTIONS));
-    fill(&bank, 10);
-    assert_eq!((bank.renewals(), look()?), (1, 10));
-    assert_eq!(bank.metrics().background_audits, 0);
-    fill(&bank, u64::from(esr::MAX_TRANSACTIONS));
-    assert_eq!((bank.renewals(), look()?), (2, 11));
-    assert_eq!(
-        (bank.metrics().audits, bank.metrics().background_audits),
-        (2, 1)
-    );
-    Ok(())
-}
-
 /// Every counter is what the test did.
 #[test]
 fn metrics_are_what_was_done() -> Result<(), Error> {

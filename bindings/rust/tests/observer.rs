@@ -9,6 +9,7 @@ use std::{
     sync::{
         Arc, Barrier, Mutex, OnceLock,
         atomic::{AtomicBool, Ordering},
+        mpsc::{Receiver, Sender, channel},
     },
     thread,
     time::Duration,
@@ -209,6 +210,60 @@ fn a_blocked_event_that_passes() -> Result<(), Error> {
     let blocked = lines.iter().filter(|line| line.contains("2 blocked"));
     assert_eq!(blocked.count(), 1, "{lines:?}");
     assert!(bank.metrics().waited >= Duration::from_millis(20));
+    Ok(())
+}
+
+/// Lets another thread end the transaction in the way, during the call.
+struct Clears {
+    /// Asks the other thread.
+    ask: Mutex<Sender<()>>,
+    /// Hears from it.
+    hear: Mutex<Receiver<()>>,
+}
+
+impl Observer for Clears {
+    fn blocked(&self, _: &Observed<'_>, _: &Refused) {
+        self.ask.lock().unwrap().send(()).expect("it listens");
+        self.hear.lock().unwrap().recv().expect("it answers");
+        // a lock that the observer waits for may consume the wake-up like that
+        thread::park_timeout(Duration::ZERO);
+    }
+}
+
+/// An event whose blocker ends while the observer is called is retried at once, although the wake-up is gone: neither an
+/// update nor a report waits, not even with patience for it.
+#[test]
+fn a_block_that_ends_while_it_is_observed() -> Result<(), Error> {
+    for is_query in [false, true] {
+        let (ask, asked) = channel();
+        let (answer, hear) = channel();
+        let (ask, hear) = (Mutex::new(ask), Mutex::new(hear));
+        let builder = Bank::builder().item("checking", 500);
+        let bank = builder.observer(Clears { ask, hear }).open()?;
+        let met = Barrier::new(2);
+        thread::scope(|threads| {
+            let (bank, met) = (&bank, &met);
+            threads.spawn(move || {
+                let held = bank.transact_stepwise(0, |u| {
+                    u.add("checking", -100)?;
+                    met.wait();
+                    asked.recv().expect("the event is blocked");
+                    Ok(())
+                });
+                answer.send(()).expect("the observer waits");
+                held
+            });
+            met.wait();
+            let read = match is_query {
+                false => bank.transact_stepwise(impatient(0), |u| u.read("checking")),
+                true => bank
+                    .report(impatient(1_000), |r| r.read("checking"))
+                    .map(|r| r.0),
+            };
+            assert_eq!(read, Ok(400));
+        });
+        assert_eq!(bank.metrics().waits, 0);
+    }
     Ok(())
 }
 

@@ -97,7 +97,7 @@ impl Bank {
         let mut counts = state.engine.counts();
         if state.is_nearly_full_at(&counts) {
             drop(state);
-            state = self.lock_with_capacity(self.waiting_in(options, waiting))?;
+            state = self.lock_with_capacity(self.waiting_in(options, waiting), false)?;
             counts = state.engine.counts();
         }
         // no one else publishes during the hold: a draft that is not stale now has read the engine's committed values

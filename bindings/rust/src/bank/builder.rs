@@ -14,7 +14,7 @@ use crate::{
     sync::AtomicU64,
     twin::Twin,
 };
-use std::{error, fmt, sync::OnceLock, time::Duration};
+use std::{error, fmt, time::Duration};
 
 /// The work before a renewal.
 pub(super) type BeforeRenewal =
@@ -220,8 +220,13 @@ impl BankBuilder {
     /// transaction of the history. It costs the memory of a second engine, up to 16 MB for the events, a tenth of the
     /// throughput, and, while there are reports, the time to replay the events.
     ///
-    /// By default a bank starts the second engine at the first renewal after a report has committed. So a bank without
-    /// reports does not pay for it, and audits hold the lock in the first history only.
+    /// By default the bank starts the thread when its first report begins. A bank without reports only logs the first 65,536
+    /// events of each history, in 1 MB. If the history has more events when the first report begins, the bank is renewed
+    /// before that; active updates continue. If the thread cannot be started, or the work before this renewal fails, audits
+    /// hold the lock until the next renewal.
+    ///
+    /// With `true` the bank starts the thread when it is opened, and is never renewed for it. With `false` audits always hold
+    /// the lock.
     ///
     /// ```
     /// use esr::{Bank, Error};
@@ -360,13 +365,15 @@ impl BankBuilder {
         let items = Items::new(self.names)?;
         let label = |number: usize| items.name(number as u32).to_owned();
         let engine = Engine::open_labelled(&self.opening, &self.weights, label)?;
-        let (twin, feed) = match self.background_audits {
-            Some(true) => {
-                let (twin, feed) = Twin::open(&self.opening, &self.weights)?;
-                (OnceLock::from(twin), Some(feed))
+        let is_logged = self.background_audits != Some(false);
+        let twin = is_logged.then(|| Twin::of(&self.opening, &self.weights));
+        let (twin, mut feed) = twin.unzip();
+        if let (Some(true), Some(twin), Some(feed)) = (self.background_audits, &twin, &mut feed) {
+            feed.begin_report(|| twin.start());
+            if !feed.can_audit() {
+                return Err(Error::NoMemory);
             }
-            _ => (OnceLock::new(), None),
-        };
+        }
         let reserved = self.before_renewal.as_ref().map_or(0, |_| RESERVED_NUMBERS);
         Ok(Bank {
             items,
@@ -378,8 +385,6 @@ impl BankBuilder {
             dropped: AtomicU64::new(0),
             is_optimistic: self.is_optimistic,
             twin,
-            weights: self.weights,
-            may_start_twin: self.background_audits.is_none(),
             before_renewal: self.before_renewal,
             store: None,
             store_opening: None,

@@ -60,7 +60,7 @@ use std::{
     collections::HashMap,
     fmt, iter,
     panic::{self, AssertUnwindSafe},
-    sync::{OnceLock, atomic::Ordering},
+    sync::atomic::Ordering,
     thread,
 };
 use update::Mode;
@@ -111,11 +111,8 @@ pub struct Bank {
     /// The number of optimistic updates whose body failed before the engine had heard of them.
     dropped: AtomicU64,
     is_optimistic: bool,
-    /// The second engine, once there is one.
-    twin: OnceLock<Twin>,
-    weights: Vec<u32>,
-    /// Whether a renewal after a report starts it.
-    may_start_twin: bool,
+    /// The second engine, unless audits always hold the lock.
+    twin: Option<Twin>,
     before_renewal: Option<BeforeRenewal>,
     /// The queue in front of the store, if there is one.
     store: Option<StoreQueue>,
@@ -217,16 +214,18 @@ impl Bank {
         Waiting::of_bank(options.patience.unwrap_or(self.patience))
     }
 
-    /// Takes the lock when the history has capacity for a begin, and renews it if no other thread does.
-    fn lock_with_capacity(&self, waiting: &mut Waiting) -> Result<Hold<'_>, Error> {
+    /// Takes the lock when the history has capacity for a begin, and renews it if no other thread does. It is also renewed
+    /// before the first report if the second engine needs that.
+    fn lock_with_capacity(&self, waiting: &mut Waiting, is_query: bool) -> Result<Hold<'_>, Error> {
         self.check_not_inside_renewal()?;
         loop {
             let mut state = self.lock();
             self.check_running()?;
-            if !state.is_nearly_full() || state.may_continue() {
+            let is_early = is_query && self.prepare_audit(&mut state);
+            if !is_early && (!state.is_nearly_full() || state.may_continue()) {
                 return Ok(state);
             }
-            if state.is_worth_renewing() {
+            if is_early || state.is_worth_renewing() {
                 let renewal = self.renew(&mut state);
                 drop(state);
                 self.observe_renewal(renewal)?;
@@ -238,6 +237,14 @@ impl Bank {
             state.wait_for_capacity(current());
             drop(state);
             waiting.park();
+        }
+    }
+
+    /// Starts the thread of the second engine before the first report. Reports whether the bank is renewed first.
+    fn prepare_audit(&self, state: &mut State) -> bool {
+        match (&mut state.feed, &self.twin) {
+            (Some(feed), Some(twin)) => feed.begin_report(|| twin.start()),
+            _ => false,
         }
     }
 
@@ -272,13 +279,6 @@ impl Bank {
             }
             return Err(Error::RenewalFailed { why });
         }
-        if self.may_start_twin && state.feed.is_none() && state.metrics.reports > 0 {
-            // without a thread, audits hold the lock as before
-            if let Ok((twin, feed)) = Twin::start(None, &self.weights) {
-                let _ = self.twin.set(twin);
-                state.feed = Some(feed);
-            }
-        }
         state.renew()?;
         let time = begun.elapsed();
         state.metrics.count_renewal(time);
@@ -312,7 +312,7 @@ impl Bank {
         mut waiting: Waiting,
         watch: &'a Watch<'_>,
     ) -> Result<Handle<'a>, Error> {
-        let mut state = self.lock_with_capacity(&mut waiting)?;
+        let mut state = self.lock_with_capacity(&mut waiting, is_query)?;
         let limit = options.limit;
         let event = match is_query {
             true => Event::BeginQuery {
@@ -400,7 +400,7 @@ impl Bank {
     }
 
     fn wake_twin(&self) {
-        if let Some(twin) = self.twin.get() {
+        if let Some(twin) = &self.twin {
             twin.wake();
         }
     }
@@ -722,7 +722,7 @@ impl Bank {
         let carried = past.finding(&mut state.engine, report.query)?;
         let found = match &mut state.feed {
             _ if carried.is_some() => carried.ok_or(Error::NoMemory),
-            Some(feed) => {
+            Some(feed) if feed.can_audit() => {
                 let receiver = feed.ask(report.query);
                 drop(state);
                 self.wake_twin();
@@ -732,10 +732,10 @@ impl Bank {
                 state.metrics.background_audits += u64::from(is_background);
                 found
             }
-            None => Err(Error::NoMemory),
+            _ => Err(Error::NoMemory),
         };
         let finding = match found {
-            // the second engine was given up, or none was asked for
+            // the second engine was given up, or has not been asked
             Err(Error::NoMemory) if state.renewals == report.renewals => {
                 state.engine.audit(report.query)?
             }

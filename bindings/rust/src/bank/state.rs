@@ -86,7 +86,7 @@ pub(super) struct State {
     /// The number of handles so far.
     handles: u64,
     pub(super) metrics: Metrics,
-    /// Feeds the second engine, if there is one.
+    /// Logs the history for the second engine, unless audits always hold the lock.
     pub(super) feed: Option<Feed>,
     /// A renewal is due when this number of transactions is left.
     pub(super) reserved: u64,

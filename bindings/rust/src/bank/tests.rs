@@ -2,9 +2,11 @@
 
 use super::*;
 use crate::{
-    Change, Observed, Observer, Store, StoreError,
+    Change, Finding, Observed, Observer, Store, StoreError,
     engine::MAX_TRANSACTIONS,
     interleave::{Depth, explore},
+    sync::park_timeout,
+    twin::{MAX_LOGGED, tests::STACK},
 };
 use std::{
     sync::{Arc, Mutex},
@@ -257,8 +259,100 @@ fn renewals_of_waiting_updates() {
     assert!(both.load(Ordering::Relaxed) > 0);
 }
 
-/// With an observer a blocked update is woken too, and its refusal names the transaction that blocks it, also when a renewal
-/// follows. (No schedule of this depth has the update sleep at the lock through its wake-up.)
+/// With one more update of one item (a begin, a read, a write and a commit) the log of a bank without reports is dropped.
+const LAST: usize = MAX_LOGGED / 4 - 1;
+
+/// Returns a bank after this number of updates.
+fn updated(updates: usize) -> Arc<Bank> {
+    let bank = Bank::builder().items([("a", 0), ("b", 0)]).open();
+    let bank = bank.expect("two items");
+    for _ in 0..updates {
+        bank.transact(0, |update| update.add("a", 1))
+            .expect("it commits");
+    }
+    Arc::new(bank)
+}
+
+/// Audits a report on the second engine, as the bank's own engine does.
+fn audit(bank: &Bank) -> Finding {
+    let read = |report: &mut BankQuery<'_, '_>| Ok((report.read("a")?, report.read("b")?));
+    let (_, report) = bank.report_unaudited(9, read).expect("it commits");
+    let finding = bank.audit(report).expect("it has committed");
+    let explained = bank.explain(report).expect("it has committed");
+    let end = format!("distance {} import {}\n", finding.distance, finding.import);
+    assert!(explained.ends_with(&end), "{explained}{finding}");
+    assert!(finding.is_exact());
+    finding
+}
+
+/// First reports while the log becomes too long: in each schedule the second engine audits them, and the bank is renewed at
+/// most once, before the first of them begins.
+#[test]
+fn first_reports() {
+    let grows: Body = |bank| {
+        for _ in 0..2 {
+            bank.transact(9, |update| update.add("a", 1))
+                .expect("it commits");
+        }
+    };
+    let slow: Body = |bank| {
+        bank.transact_stepwise(9, |update| {
+            update.add("a", 1)?;
+            update.add("b", 1)
+        })
+        .expect("it commits");
+    };
+    let reports: Body = |bank| _ = audit(bank);
+    let all = [(); 2].map(|()| AtomicU64::new(0));
+    for bodies in [
+        vec![grows, reports],
+        vec![slow, reports],
+        vec![reports, reports],
+    ] {
+        for updates in [LAST - 1, LAST] {
+            let runs = explore(
+                Depth::coarse(2),
+                || (updated(updates), bodies.clone()),
+                |bank, now| {
+                    check_end(bank, now, PROMPT);
+                    let metrics = bank.metrics();
+                    assert!(metrics.audits > 0);
+                    assert_eq!(metrics.background_audits, metrics.audits);
+                    all[metrics.renewals as usize].fetch_add(1, Ordering::Relaxed);
+                },
+            );
+            println!("{runs} schedules");
+        }
+    }
+    assert!(all.iter().all(|count| count.load(Ordering::Relaxed) > 0));
+}
+
+/// Without a thread audits hold the lock and nothing is logged, until the next renewal; then another thread is tried.
+#[test]
+fn a_thread_that_cannot_be_started() {
+    for updates in [LAST, LAST + 1] {
+        let bank = updated(updates);
+        let usual = STACK.replace(usize::MAX / 4);
+        let counts = || {
+            let metrics = bank.metrics();
+            let has_thread = bank.twin.as_ref().expect("it may have one").has_started();
+            (metrics.renewals, metrics.background_audits, has_thread)
+        };
+        audit(&bank);
+        assert_eq!(counts(), (0, 0, false));
+        STACK.set(usual);
+        audit(&bank);
+        assert_eq!(counts(), (0, 0, false));
+        bank.renew(&mut bank.lock()).expect("memory");
+        bank.transact(9, |update| update.add("b", 1))
+            .expect("it commits");
+        assert_eq!(audit(&bank).before.len(), 1);
+        assert_eq!(counts(), (1, 1, true));
+    }
+}
+
+/// With an observer a blocked update is woken too, although the observer consumes a wake-up, and its refusal names the
+/// transaction that blocks it, also when a renewal follows.
 #[test]
 fn observed_blocks() {
     struct Names;
@@ -269,6 +363,8 @@ fn observed_blocks() {
                 _ => "holds",
             };
             assert_eq!(refused.other.as_deref(), Some(other), "{refused:?}");
+            // as if it waited for a lock
+            park_timeout(Duration::from_micros(1));
         }
     }
     let holds: Body = |bank| {
