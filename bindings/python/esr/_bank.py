@@ -5,6 +5,10 @@ after a pause for as long as the transaction's patience lasts; the youngest tran
 the history is nearly full, the next begin renews the engine and carries the active transactions over: each has another number
 then, and the rest of its limit. The part of its charges that is settled in earlier histories is kept in its handle.
 
+A renewal that carries searches the whole history for the operations of active transactions, and all threads wait meanwhile.
+So a history with a carried transaction is short, which divides the same time among more renewals. A renewal without active
+transactions does not search, and the engine keeps its memory.
+
 With a store, the engine is ahead of the store by the updates in a queue. Every call that returns something of them waits
 until the store has them; `bank[name]` and `snapshot` return the store's values without waiting.
 """
@@ -54,6 +58,9 @@ MAX_ENTRIES, MAX_TRANSACTIONS = 1_000_000, 65_535
 """The size of a history."""
 NEARLY_FULL = 100_000
 """If no more entries are left, the engine is renewed before a transaction begins, so that active ones can continue."""
+SHORT = 100_000
+"""A history with a transaction that was carried into it is renewed when it has grown by its entries at the opening and this
+number: a renewal that carries takes a time for each entry, in which all threads wait."""
 RESERVE = 1_000
 """With `before_renewal` the engine is renewed when no more transactions are left, so they are there if it fails."""
 RETRY = 1.0
@@ -161,6 +168,8 @@ class Bank(Mapping[str, int]):
         self._retry_at = 0.0
         self._repeated = c.Counts()
         """The size of this history when it was opened: the entries of the transactions that were carried into it."""
+        self._carried = 0
+        """How many of the active transactions were carried into this history."""
         self._due: List[Query] = []
         self._counters = Counters()
         if not weights.keys() <= opening.keys():
@@ -634,6 +643,7 @@ class Bank(Mapping[str, int]):
             transaction._state = ENDED
             self._waits.forget(transaction.number)
             self._active.pop(transaction.number, None)
+            self._carried -= transaction._carried > 0
             self._ended.notify_all()
             self._counters.aborts += not commits and not transaction._is_retried
             if not commits:
@@ -759,7 +769,9 @@ class Bank(Mapping[str, int]):
     def _is_nearly_full(self) -> bool:
         counts = self._counts()
         reserve = RESERVE if self._before_renewal else 0
-        return counts.transactions_left <= reserve or counts.entries_left <= NEARLY_FULL
+        if counts.transactions_left <= reserve or counts.entries_left <= NEARLY_FULL:
+            return True
+        return self._carried > 0 and counts.entries >= 2 * self._repeated.entries + SHORT
 
     def _is_worth_renewing(self) -> bool:
         """Returns whether this history has grown since it was opened. Otherwise it has entries of active transactions only,
@@ -794,7 +806,7 @@ class Bank(Mapping[str, int]):
                 return False
             finally:
                 self._is_renewing = False
-        self._carry()
+        self._renew_engine()
         self._due.clear()
         self.renewals += 1
         self.renewal_failure = None
@@ -804,15 +816,22 @@ class Bank(Mapping[str, int]):
         LOG.info("renewed the history in %.3f s", took)
         return True
 
-    def _carry(self) -> None:
-        """Renews the engine, and gives the active transactions the numbers that they have in the new history."""
-        carried, count = (c.Carried * max(1, len(self._active)))(), ctypes.c_size_t()
-        self._check(c.library.esr_renew_carrying(self._engine, carried, len(carried), count))
+    def _renew_engine(self) -> None:
+        """Renews the engine, in place if no transaction is active. Otherwise it carries the active ones over, and gives them the
+        numbers that they have in the new history."""
+        active, carried = self._counts().active, []
+        if active:
+            room, count = (c.Carried * active)(), ctypes.c_size_t()
+            self._check(c.library.esr_renew_carrying(self._engine, room, active, count))
+            carried = room[: count.value]
+        else:
+            self._check(c.library.esr_renew(self._engine))
         self._repeated = self._counts()
-        numbers = {one.old: one.new for one in carried[: count.value]}
-        for one in carried[: count.value]:
+        numbers = {one.old: one.new for one in carried}
+        for one in carried:
             self._active[one.old]._carry(one.new, one.settled, numbers)
         self._active = {one.number: one for one in self._active.values()}
+        self._carried = len(self._active)
         self._txn_names = {numbers[old]: name for old, name in self._txn_names.items() if old in numbers}
         self._waits.renumber(numbers)
         reports = sum(isinstance(one, Query) for one in self._active.values())

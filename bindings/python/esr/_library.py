@@ -110,6 +110,7 @@ def _load() -> types.SimpleNamespace:
         "esr_picture": [engine, c_uint32, c_char_p, c_size_t, *text],
         "esr_ledger": [engine, *text],
         "esr_do": [engine, POINTER(Event), c_size_t, POINTER(Reply), c_size_t, c_bool, POINTER(c_size_t)],
+        "esr_renew": [engine],
         "esr_renew_carrying": [engine, POINTER(Carried), c_size_t, POINTER(c_size_t)],
     }
     for name, arguments in declared.items():
