@@ -222,7 +222,8 @@ class Carried(unittest.TestCase):
             except BaseException as why:
                 errors.append(why)
 
-        bodies = [lambda seed=seed: client(seed) for seed in (1, 2, 3)] + [clerk, slow]
+        # the clients come last: next to them it may take a second to start a thread on one processor
+        bodies = [clerk, slow, *[lambda seed=seed: client(seed) for seed in (1, 2, 3)]]
         # short histories, so that a short run has many renewals
         with mock.patch("esr._bank.NEARLY_FULL", 999_000):
             threads = [threading.Thread(target=caught, args=(body,)) for body in bodies]
