@@ -1,10 +1,20 @@
 /* carried [SECONDS]: transactions of esr_bank.h that outlive their history. A report reads an item, outlives three histories of
  * updates, and reads another item: it is off by at most its finding from a state that the updates have left. An update holds
- * two locks over two renewals, and commits. Then, for this time, threads move money next to long reports and updates. */
+ * two locks over two renewals, and commits. The histories with these transactions are short, and only these renewals carry.
+ * Then, for this time, threads move money next to long reports and updates. */
 #define _XOPEN_SOURCE 700
-#include "esr_bank.h"
+#include "esr.h"
 #include <stdio.h>
 #include <string.h>
+
+/* Counts the renewals that carry. */
+static uint64_t carrying;
+static inline esr_status counted_renew_carrying(esr_engine *engine, esr_carried *carried, size_t capacity, size_t *count) {
+    carrying++;
+    return esr_renew_carrying(engine, carried, capacity, count);
+}
+#define esr_renew_carrying counted_renew_carrying
+#include "esr_bank.h"
 
 enum { MOVERS = 3, ACCOUNTS = 8, EACH = 1000, X = ACCOUNTS, Y, HITS, ITEMS };
 #define MUST(fact) \
@@ -103,6 +113,49 @@ static void update_holds_its_locks(void) {
     MUST(values[X] == 10 && values[Y] == 20);
 }
 
+static uint64_t lengths[7]; /* the entries of the first histories, and those that were repeated */
+static uint64_t repeated[7];
+
+static bool note_length(esr_bank *full, void *unused) {
+    esr_counts counts;
+    (void)unused;
+    MUST(esr_counts_of(&full->engine, &counts) == ESR_DONE);
+    if (full->renewals < sizeof lengths / sizeof *lengths) {
+        lengths[full->renewals] = counts.entries;
+        repeated[full->renewals] = full->repeated.entries;
+    }
+    return true;
+}
+
+/* Writes Y, and outlives histories, the first of which is renewed when it is full. */
+static bool outlive_five(esr_bank_txn *t, void *context) {
+    (void)context;
+    if (!esr_bank_write(t, Y, 20)) return false;
+    while (renewals() < 5) MUST(esr_bank_transact(&bank, 0, hit, NULL) == ESR_BANK_DONE);
+    return true;
+}
+
+/* While a carried transaction is active, a history is renewed after ESR_BANK_SHORT entries. Other renewals do not carry. */
+static void histories_with_carried_transactions_are_short(void) {
+    const int64_t opening[ITEMS] = {0};
+    uint64_t carried = carrying;
+    MUST(esr_bank_open(&bank, opening, ITEMS, 60.0) == ESR_DONE);
+    esr_bank_before_renewal(&bank, note_length, NULL);
+    while (renewals() < 1) MUST(esr_bank_transact(&bank, 0, hit, NULL) == ESR_BANK_DONE);
+    MUST(carrying == carried);
+    MUST(esr_bank_transact(&bank, large, outlive_five, NULL) == ESR_BANK_DONE);
+    MUST(carrying == carried + 4 && bank.carried == 0);
+    while (renewals() < 7) MUST(esr_bank_transact(&bank, 0, hit, NULL) == ESR_BANK_DONE);
+    MUST(carrying == carried + 4);
+    for (int i = 0; i < 7; i++) {
+        bool is_short = 2 <= i && i < 5;
+        MUST((repeated[i] == 0) == (i < 2 || i == 6));
+        if (is_short) MUST(lengths[i] - 2 * repeated[i] - ESR_BANK_SHORT < 10);
+        else MUST(lengths[i] > 3 * ESR_BANK_SHORT);
+    }
+    esr_bank_close(&bank);
+}
+
 typedef struct transfer {
     uint32_t from, to;
 } transfer;
@@ -193,6 +246,7 @@ static void soak(double seconds) {
 
 int main(int words, char **word) {
     int64_t opening[ITEMS];
+    histories_with_carried_transactions_are_short();
     for (int item = 0; item < ITEMS; item++) opening[item] = item < ACCOUNTS ? EACH : 0;
     MUST(esr_bank_open(&bank, opening, ITEMS, 60.0) == ESR_DONE);
     report_outlives_three_histories();

@@ -21,7 +21,10 @@
  * restart), the transaction is aborted and restarted after a random pause; so transactions that block each other in a cycle
  * yield to one another. A transaction that has waited for longer than the bank's patience gives up. When the history is full,
  * the engine is renewed, and the active transactions are carried over: see esr_bank_before_renewal. No transaction waits for
- * another one's end because of that, unless nearly all entries of the history are needed for active transactions.
+ * another one's end because of that, unless nearly all entries of the history are needed for active transactions. A renewal
+ * that carries searches the whole history under the lock, so a history with a carried transaction is short (ESR_BANK_SHORT),
+ * which divides the same time among more renewals. A renewal without active transactions does not search, and the engine
+ * keeps its memory.
  *
  * The calls of esr.h that are not events, such as esr_ledger and esr_explain, work on bank.engine under bank.lock. They need
  * the number of a transaction: esr_bank_run has it, and a body finds it in t->txn, which it reads under bank.lock. It is valid
@@ -47,6 +50,10 @@
 #ifdef __cplusplus
 extern "C" {
 #endif
+
+/* A history with a transaction that was carried into it is renewed when it has grown by its entries at the opening and this
+ * number: a renewal that carries takes a time for each entry, in which all threads wait. */
+#define ESR_BANK_SHORT 100000u
 
 typedef enum esr_bank_result {
     ESR_BANK_DONE = 0,     /* committed */
@@ -85,6 +92,7 @@ typedef struct esr_bank {
     double patience;       /* seconds that a transaction may wait in total */
     struct esr_bank_txn *active;
     esr_counts repeated;   /* the history when it was opened: the entries of the transactions carried into it */
+    uint64_t carried;      /* the active transactions that were carried into the history */
     uint64_t commits, aborts, restarts, renewals;
     bool (*before_renewal)(struct esr_bank *bank, void *context);
     void *context;
@@ -126,7 +134,7 @@ static inline double esr_bank_wait(esr_bank *bank, double seconds) {
  * esr_open_weighted; the bank must be closed only after ESR_DONE. */
 static inline esr_status esr_bank_open_weighted(esr_bank *bank, const int64_t *opening, size_t items, const uint32_t *weights,
                                                 size_t weighted, double patience) {
-    const esr_bank closed = {ESR_CLOSED, PTHREAD_MUTEX_INITIALIZER, PTHREAD_COND_INITIALIZER, 0, NULL, {0, 0, 0, 0, 0},
+    const esr_bank closed = {ESR_CLOSED, PTHREAD_MUTEX_INITIALIZER, PTHREAD_COND_INITIALIZER, 0, NULL, {0, 0, 0, 0, 0}, 0,
                              0, 0, 0, 0, NULL, NULL};
     *bank = closed;
     bank->patience = patience;
@@ -148,9 +156,10 @@ static inline esr_status esr_bank_open(esr_bank *bank, const int64_t *opening, s
     return esr_bank_open_weighted(bank, opening, items, none, 0, patience);
 }
 
-/* Sets a function that the bank calls, holding the lock, before it discards a full history: it may call esr_audit,
- * esr_ledger and other calls that are not events on bank->engine. Active transactions continue in the next history. If it
- * returns false, the history is kept and the call is retried at the next begin. */
+/* Sets a function that the bank calls, holding the lock, before it discards a full history, or one with a carried transaction
+ * after ESR_BANK_SHORT entries: it may call esr_audit, esr_ledger and other calls that are not events on bank->engine. Active
+ * transactions continue in the next history. If it returns false, the history is kept and the call is retried at the next
+ * begin. */
 static inline void esr_bank_before_renewal(esr_bank *bank, bool (*call)(esr_bank *bank, void *context), void *context) {
     pthread_mutex_lock(&bank->lock);
     bank->before_renewal = call;
@@ -185,18 +194,34 @@ static inline bool esr_bank_has_grown(esr_bank *bank) {
         || counts.transactions - bank->repeated.transactions >= ESR_MAX_TRANSACTIONS / 8;
 }
 
-/* Renews the engine, and carries the active transactions over. Returns whether it did. The lock is held. */
+/* Reports whether a history is to be renewed before it is full, because of a carried transaction. The lock is held. */
+static inline bool esr_bank_is_long(esr_bank *bank) {
+    esr_counts counts;
+    return bank->carried && esr_counts_of(&bank->engine, &counts) == ESR_DONE
+        && counts.entries >= 2 * bank->repeated.entries + ESR_BANK_SHORT;
+}
+
+/* Renews the engine, in place if no transaction is active, and otherwise carries the active ones over. Returns whether it did.
+ * The lock is held. */
 static inline bool esr_bank_renew(esr_bank *bank) {
-    size_t active = 0, count;
+    esr_counts counts;
+    esr_carried *carried = NULL;
+    size_t active, count = 0;
+    bool renewed;
     if (!esr_bank_has_grown(bank)) return false;
     if (bank->before_renewal && !bank->before_renewal(bank, bank->context)) return false;
-    for (esr_bank_txn *t = bank->active; t; t = t->next) active++;
-    esr_carried *carried = (esr_carried *)malloc((active + 1) * sizeof *carried);
-    if (!carried) return false;
-    bool renewed = esr_renew_carrying(&bank->engine, carried, active + 1, &count) == ESR_DONE;
+    if (esr_counts_of(&bank->engine, &counts) != ESR_DONE) return false;
+    active = (size_t)counts.active;
+    if (active == 0) {
+        renewed = esr_renew(&bank->engine) == ESR_DONE;
+    } else {
+        carried = (esr_carried *)malloc(active * sizeof *carried);
+        renewed = carried && esr_renew_carrying(&bank->engine, carried, active, &count) == ESR_DONE;
+    }
     if (renewed) {
         esr_bank_renumber(bank, carried, count);
         esr_counts_of(&bank->engine, &bank->repeated);
+        bank->carried = count;
         bank->renewals++;
         pthread_cond_broadcast(&bank->ended);
     }
@@ -284,13 +309,14 @@ static inline bool esr_bank_add(esr_bank_txn *t, uint32_t item, int64_t change) 
     return esr_bank_event(t, ESR_BANK_ADD, item, change, NULL);
 }
 
-/* Begins a transaction. Renews a full history, and waits while that is not possible. Returns whether it began. The lock is
- * held. */
+/* Begins a transaction. Renews a full history, and waits while that is not possible. Renews a long history if that is
+ * possible. Returns whether it began. The lock is held. */
 static inline bool esr_bank_begin(esr_bank_txn *t, bool query, bool strict, uint64_t limit) {
     esr_bank *bank = t->bank;
     esr_reply reply = {0, 0, 0, 0};
     bool blocked;
     for (;;) {
+        if (esr_bank_is_long(bank)) esr_bank_renew(bank);
         esr_status status = query ? esr_begin_query(&bank->engine, limit, strict, &reply)
                                   : esr_begin_update(&bank->engine, limit, &reply);
         if (esr_bank_judge(t, status, &reply, &blocked)) {
@@ -325,6 +351,7 @@ static inline bool esr_bank_end(esr_bank_txn *t, bool commits) {
     }
     if (committed) bank->commits++;
     else bank->aborts++;
+    if (t->renewals) bank->carried--;
     esr_bank_txn **link = &bank->active;
     while (*link != t) link = &(*link)->next;
     *link = t->next;

@@ -5,6 +5,13 @@ after a pause for as long as the transaction's patience lasts; the youngest tran
 the history is nearly full, the next begin renews the engine and carries the active transactions over: each has another number
 then, and the rest of its limit. The part of its charges that is settled in earlier histories is kept in its handle.
 
+A renewal that carries searches the whole history for the operations of active transactions, and all threads wait meanwhile.
+So a history with a carried transaction is short, which divides the same time among more renewals. A renewal without active
+transactions does not search, and the engine keeps its memory.
+
+Once a bank has had a report, a second engine replays the accepted events and audits on its own thread (`_twin`), so an audit
+holds the lock for microseconds. The calls that execute events log them.
+
 With a store, the engine is ahead of the store by the updates in a queue. Every call that returns something of them waits
 until the store has them; `bank[name]` and `snapshot` return the store's values without waiting.
 """
@@ -45,6 +52,7 @@ from ._errors import (
 from ._metrics import Active, Counters, Metrics
 from ._store import Store, StoreQueue, Ticket
 from ._transactions import ACTIVE, ENDED, Draft, Finding, Query, Transaction, Update
+from ._twin import MAX_LOGGED, Feed
 from ._waiting import SHARE, Lock, WaitGraph, Waiting
 
 __all__ = ["Bank", "Counts", "Finding", "Query", "Update"]
@@ -54,6 +62,9 @@ MAX_ENTRIES, MAX_TRANSACTIONS = 1_000_000, 65_535
 """The size of a history."""
 NEARLY_FULL = 100_000
 """If no more entries are left, the engine is renewed before a transaction begins, so that active ones can continue."""
+SHORT = 100_000
+"""A history with a transaction that was carried into it is renewed when it has grown by its entries at the opening and this
+number: a renewal that carries takes a time for each entry, in which all threads wait."""
 RESERVE = 1_000
 """With `before_renewal` the engine is renewed when no more transactions are left, so they are there if it fails."""
 RETRY = 1.0
@@ -95,6 +106,12 @@ class Bank(Mapping[str, int]):
     yet; an active one is not due. It may not begin a transaction. If it raises an exception, the bank continues in the old history as long as that has
     capacity, and calls it again later.
 
+    `background_audits` is whether reports are audited on a thread of the bank, by a second engine that replays the same events.
+    Then only the report's caller waits for an audit; otherwise an audit holds the lock for about half a microsecond for each
+    transaction of the history. The thread starts when the first report begins. A bank without reports only logs the first 65,536
+    events of each history. If the history has more events when the first report begins, the bank is renewed before that; active
+    transactions continue.
+
     `store` keeps the committed values on disk: see `SQLiteStore` and `PostgreSQLStore`. Its values replace the opening values
     of `items`, and items that it does not have are added. If it fails for `store_patience` seconds, the bank stops.
 
@@ -112,6 +129,7 @@ class Bank(Mapping[str, int]):
         weights: Mapping[str, int] = {},
         patience: float = 10.0,
         optimistic: bool = True,
+        background_audits: bool = True,
         before_renewal: Optional[Callable[["Bank"], None]] = None,
         store: Optional[Store] = None,
         store_patience: float = 10.0,
@@ -131,19 +149,19 @@ class Bank(Mapping[str, int]):
         self._engine = c.Engine()
         self._queue: Optional[StoreQueue] = None
         if store is None:
-            self._open(opening, counted)
+            self._open(opening, counted, background_audits)
             return
         stored = store.open(opening)
         try:
             values = _merged(opening, stored)
-            self._open(values, counted)
+            self._open(values, counted, background_audits)
         except BaseException:
             store.close()
             raise
         self._queue = StoreQueue(store, store_seconds, dict(values))
 
-    def _open(self, opening: Dict[str, int], weights: Mapping[str, int]) -> None:
-        """Opens the engine."""
+    def _open(self, opening: Dict[str, int], weights: Mapping[str, int], background_audits: bool) -> None:
+        """Opens the engine, and the log of its history."""
         self._numbers = {name: number for number, name in enumerate(opening)}
         self._mirror: Dict[Optional[str], Tuple[int, int]] = {name: (0, value) for name, value in opening.items()}
         """The committed value of each item with the number of the commit that wrote it, and at None the last number. Each
@@ -161,6 +179,8 @@ class Bank(Mapping[str, int]):
         self._retry_at = 0.0
         self._repeated = c.Counts()
         """The size of this history when it was opened: the entries of the transactions that were carried into it."""
+        self._carried = 0
+        """How many of the active transactions were carried into this history."""
         self._due: List[Query] = []
         self._counters = Counters()
         if not weights.keys() <= opening.keys():
@@ -171,6 +191,8 @@ class Bank(Mapping[str, int]):
         values = (ctypes.c_int64 * max(count, 1))(*opening.values())
         counted = (ctypes.c_uint32 * max(count, 1))(*(weights.get(name, 1) for name in opening))
         self._check(c.library.esr_open_weighted(self._engine, values, count, counted, count))
+        self._feed = Feed(counted[:count], bool(background_audits))
+        self._feed.open(values, b"")
 
     def close(self) -> None:
         """Closes the bank. Each later call raises `BankClosed`, those of active transactions too. A store is closed once it has
@@ -189,6 +211,9 @@ class Bank(Mapping[str, int]):
                 self._active.clear()
                 c.library.esr_close(self._engine)
                 self._ended.notify_all()
+            twin = self._feed.close()
+        if twin is not None:
+            twin.end(waits=True)
         if self._queue is not None:
             self._queue.close()
 
@@ -202,6 +227,9 @@ class Bank(Mapping[str, int]):
         if getattr(self, "_queue", None) is not None:
             assert self._queue is not None
             self._queue.close(waits=False)
+        twin = self._feed.close() if hasattr(self, "_feed") else None
+        if twin is not None:
+            twin.end(waits=False)
         if hasattr(self, "_engine") and not self._is_closed:
             c.library.esr_close(self._engine)
 
@@ -587,31 +615,60 @@ class Bank(Mapping[str, int]):
         self._check(call(self._engine, *arguments, reply))
         return reply
 
-    def _answers(self, events: List[c.Event]) -> List[c.Reply]:
-        """Returns the replies to events, up to the first that is refused."""
-        replies, answered = (c.Reply * len(events))(), ctypes.c_size_t()
-        given = (c.Event * len(events))(*events)
-        self._check(c.library.esr_do(self._engine, given, len(events), replies, len(replies), True, answered))
-        return list(replies[: answered.value])
+    def _logged(self, reply: c.Reply, kind: int, txn: int, item: int = 0, value: int = 0) -> c.Reply:
+        """Logs an event for the second engine if it was accepted, and returns the reply."""
+        if self._feed.is_on and reply.kind != c.REFUSED:
+            self._feed.push(c.EVENT.pack(kind, txn, item, 0, value), bytes(reply))
+        return reply
+
+    def _read(self, txn: int, item: int) -> c.Reply:
+        return self._logged(self._answer(c.library.esr_read, txn, item), c.READ, txn, item)
+
+    def _write(self, txn: int, item: int, value: int) -> c.Reply:
+        return self._logged(self._answer(c.library.esr_write, txn, item, value), c.WRITE, txn, item, value)
+
+    def _read_for_update(self, txn: int, item: int, is_locked: bool) -> c.Reply:
+        reply = self._answer(c.library.esr_read_for_update, txn, item)
+        if not is_locked and reply.kind != c.REFUSED:
+            # the engine has taken the lock by a write of the current value
+            self._logged(c.Reply(c.WROTE), c.WRITE, txn, item, reply.value)
+        return self._logged(reply, c.READ, txn, item)
+
+    def _abort(self, txn: int) -> None:
+        self._logged(self._answer(c.library.esr_abort, txn), c.ABORT, txn)
 
     def _packed(self, events: List[int]) -> Tuple[int, ...]:
         """Returns the replies to events, up to the first that is refused: five numbers for each event, four for each reply. It
         keeps the interpreter's lock, since creating objects for them takes longer than the call."""
         count, answered = len(events) // 5, ctypes.c_size_t()
-        replies = ctypes.create_string_buffer(24 * count)
+        replies = ctypes.create_string_buffer(c.REPLY.size * count)
         given = struct.pack("@" + "IIIQq" * count, *events)
         self._check(c.library.esr_do_packed(self._engine, given, count, replies, count, True, answered))
-        return struct.unpack_from("@" + "IIIq" * answered.value, replies)
+        found = struct.unpack_from("@" + "IIIq" * answered.value, replies)
+        if self._feed.is_on:
+            accepted = answered.value - (found[-4] == c.REFUSED)
+            self._feed.push(given[: accepted * c.EVENT.size], replies.raw[: accepted * c.REPLY.size])
+        return found
 
-    def _begin(self, transaction: Transaction, call: Callable[..., int], *arguments: int) -> None:
+    def _begin_txn(self, kind: int, limit: int) -> int:
+        """Begins a transaction in the engine, and returns its number."""
+        if kind == c.BEGIN_UPDATE:
+            reply = self._answer(c.library.esr_begin_update, limit)
+        else:
+            reply = self._answer(c.library.esr_begin_query, limit, kind == c.BEGIN_STRICT_QUERY)
+        if reply.kind == c.REFUSED:
+            raise OutOfRange(REASONS[reply.refusal])
+        if self._feed.is_on:
+            self._feed.push(c.EVENT.pack(kind, 0, 0, limit, 0), bytes(reply))
+        return reply.txn
+
+    def _begin(self, transaction: Transaction, kind: int) -> None:
         with self._lock:
             self._make_room(transaction)
-            reply = self._answer(call, *arguments)
-            if reply.kind == c.REFUSED:
-                raise OutOfRange(REASONS[reply.refusal])
-            transaction.number, transaction._renewals = reply.txn, self.renewals
+            number = self._begin_txn(kind, transaction._limit)
+            transaction.number, transaction._renewals = number, self.renewals
             transaction._state, transaction._begun_at = ACTIVE, time.monotonic()
-            self._active[reply.txn] = transaction
+            self._active[number] = transaction
             self._note_name(transaction)
             if transaction._age is None:
                 self._bodies += 1
@@ -634,10 +691,11 @@ class Bank(Mapping[str, int]):
             transaction._state = ENDED
             self._waits.forget(transaction.number)
             self._active.pop(transaction.number, None)
+            self._carried -= transaction._carried > 0
             self._ended.notify_all()
             self._counters.aborts += not commits and not transaction._is_retried
             if not commits:
-                self._answer(c.library.esr_abort, transaction.number)
+                self._abort(transaction.number)
             elif isinstance(transaction, Update):
                 ticket = self._commit(transaction.number, transaction._wrote)
                 self._counters.updates += 1
@@ -658,13 +716,14 @@ class Bank(Mapping[str, int]):
         locks.
         """
         try:
-            self._answer(c.library.esr_commit, txn)
+            self._logged(self._answer(c.library.esr_commit, txn), c.COMMIT, txn)
             return self._publish(wrote)
         except BaseException:
+            self._feed.give_up()
             if self._account(txn).status == c.COMMITTED:
                 self._publish(wrote)
             else:
-                self._answer(c.library.esr_abort, txn)
+                self._abort(txn)
             raise
 
     def _note_report(self, report: Transaction) -> None:
@@ -690,9 +749,15 @@ class Bank(Mapping[str, int]):
                     try:
                         reply = events()
                     except HistoryFull:
+                        self._feed.give_up()  # some of the events may have been executed
                         if not self._renew_for_event():
                             raise
                         continue
+                    except EsrError:  # an argument is invalid
+                        raise
+                    except BaseException:
+                        self._feed.give_up()
+                        raise
                     if reply.kind != c.REFUSED:
                         return reply
                     blocked = self._blocked(transaction, reply)
@@ -733,15 +798,18 @@ class Bank(Mapping[str, int]):
     # Renewals
 
     def _make_room(self, transaction: Transaction) -> None:
-        """Renews a history that is nearly full. If its entries are those of active transactions, the bank continues in it
-        while it has capacity, and then waits until one of them ends."""
+        """Renews a history that is nearly full, or before the first report one whose log was dropped. If its entries are those of
+        active transactions, the bank continues in it while it has capacity, and then waits until one of them ends."""
         self._require_running()
         if self._is_renewing:
             raise Misuse("before_renewal may not begin a transaction: it is called because the history is full")
-        waiting = transaction._waiting
-        while self._is_nearly_full():
+        waiting, is_report = transaction._waiting, isinstance(transaction, Query)
+        while True:
+            is_for_audits = is_report and self._feed.begin_report()
+            if not is_for_audits and not self._is_nearly_full():
+                return
             is_early = self.renewal_failure and time.monotonic() < self._retry_at
-            is_worth_renewing = self._is_worth_renewing()
+            is_worth_renewing = is_for_audits or self._is_worth_renewing()
             if (is_early or not is_worth_renewing) and self._has_capacity():
                 return
             if is_worth_renewing:
@@ -759,7 +827,9 @@ class Bank(Mapping[str, int]):
     def _is_nearly_full(self) -> bool:
         counts = self._counts()
         reserve = RESERVE if self._before_renewal else 0
-        return counts.transactions_left <= reserve or counts.entries_left <= NEARLY_FULL
+        if counts.transactions_left <= reserve or counts.entries_left <= NEARLY_FULL:
+            return True
+        return self._carried > 0 and counts.entries >= 2 * self._repeated.entries + SHORT
 
     def _is_worth_renewing(self) -> bool:
         """Returns whether this history has grown since it was opened. Otherwise it has entries of active transactions only,
@@ -794,7 +864,8 @@ class Bank(Mapping[str, int]):
                 return False
             finally:
                 self._is_renewing = False
-        self._carry()
+        self._renew_engine()
+        self._open_log()
         self._due.clear()
         self.renewals += 1
         self.renewal_failure = None
@@ -804,20 +875,39 @@ class Bank(Mapping[str, int]):
         LOG.info("renewed the history in %.3f s", took)
         return True
 
-    def _carry(self) -> None:
-        """Renews the engine, and gives the active transactions the numbers that they have in the new history."""
-        carried, count = (c.Carried * max(1, len(self._active)))(), ctypes.c_size_t()
-        self._check(c.library.esr_renew_carrying(self._engine, carried, len(carried), count))
+    def _renew_engine(self) -> None:
+        """Renews the engine, in place if no transaction is active. Otherwise it carries the active ones over, and gives them the
+        numbers that they have in the new history."""
+        active, carried = self._counts().active, []
+        if active:
+            room, count = (c.Carried * active)(), ctypes.c_size_t()
+            self._check(c.library.esr_renew_carrying(self._engine, room, active, count))
+            carried = room[: count.value]
+        else:
+            self._check(c.library.esr_renew(self._engine))
         self._repeated = self._counts()
-        numbers = {one.old: one.new for one in carried[: count.value]}
-        for one in carried[: count.value]:
+        numbers = {one.old: one.new for one in carried}
+        for one in carried:
             self._active[one.old]._carry(one.new, one.settled, numbers)
         self._active = {one.number: one for one in self._active.values()}
+        self._carried = len(self._active)
         self._txn_names = {numbers[old]: name for old, name in self._txn_names.items() if old in numbers}
         self._waits.renumber(numbers)
         reports = sum(isinstance(one, Query) for one in self._active.values())
         self._counters.carried_reports += reports
         self._counters.carried += len(numbers) - reports
+
+    def _open_log(self) -> None:
+        """Begins the log of this history, with the entries that the renewal has repeated."""
+        if not self._feed.is_enabled or self._repeated.entries > MAX_LOGGED:
+            return self._feed.give_up()
+        try:
+            values, count = (ctypes.c_int64 * max(1, len(self._numbers)))(), ctypes.c_size_t()
+            self._check(c.library.esr_values(self._engine, values, len(values), count))
+            script = self._text(c.library.esr_history_script, b"", 0) if self._repeated.entries else b""
+            self._feed.open(values, script)
+        except (MemoryError, OSError):
+            self._feed.give_up()
 
     def _note_failure(self, why: Exception) -> None:
         self.renewal_failure = why

@@ -8,13 +8,14 @@ import ctypes
 import ctypes.util
 import os
 import pathlib
+import struct
 import types
 from ctypes import POINTER, c_bool, c_char_p, c_int64, c_size_t, c_uint8, c_uint32, c_uint64
 
 DONE, TOO_SMALL, FULL, NO_MEMORY, IS_CLOSED = 0, 7, 12, 13, 14
 FIRST_THAT_MAY_PASS = 9
 """Refusals from this number on may pass once another transaction has ended."""
-READ, WRITE = 2, 3
+BEGIN_UPDATE, READ, WRITE, COMMIT, ABORT, BEGIN_QUERY, BEGIN_STRICT_QUERY = 1, 2, 3, 4, 5, 6, 7
 BEGUN, VALUE, WROTE, COMMITTED, ABORTED, REFUSED = 1, 2, 3, 4, 5, 6
 QUICK = {"esr_begin_update", "esr_begin_query", "esr_read", "esr_write", "esr_read_for_update", "esr_commit", "esr_abort"}
 QUICK |= {"esr_totals_of", "esr_counts_of", "esr_account_of"}
@@ -34,8 +35,8 @@ class Reply(ctypes.Structure):
     value: int
 
 
-class Event(ctypes.Structure):
-    _fields_ = [("kind", c_uint32), ("txn", c_uint32), ("item", c_uint32), ("limit", c_uint64), ("value", c_int64)]
+EVENT, REPLY = struct.Struct("@IIIQq"), struct.Struct("@IIIq")
+"""An event and a reply as bytes."""
 
 
 class Totals(ctypes.Structure):
@@ -109,17 +110,18 @@ def _load() -> types.SimpleNamespace:
         "esr_explain": [engine, c_uint32, c_char_p, c_size_t, *text],
         "esr_picture": [engine, c_uint32, c_char_p, c_size_t, *text],
         "esr_ledger": [engine, *text],
-        "esr_do": [engine, POINTER(Event), c_size_t, POINTER(Reply), c_size_t, c_bool, POINTER(c_size_t)],
+        "esr_renew": [engine],
         "esr_renew_carrying": [engine, POINTER(Carried), c_size_t, POINTER(c_size_t)],
     }
     for name, arguments in declared.items():
         call = getattr(quick if name in QUICK else library, name)
         call.argtypes, call.restype = arguments, c_uint32
         setattr(calls, name, call)
-    # esr_do with events and replies as bytes
-    calls.esr_do_packed = ctypes.PyDLL(path).esr_do
-    calls.esr_do_packed.argtypes = [engine, c_char_p, c_size_t, c_char_p, c_size_t, c_bool, POINTER(c_size_t)]
-    calls.esr_do_packed.restype = c_uint32
+    # esr_do with events and replies as bytes: of a transaction, and of a part of a history
+    calls.esr_do_packed, calls.esr_replay = ctypes.PyDLL(path).esr_do, ctypes.CDLL(path).esr_do
+    for call in (calls.esr_do_packed, calls.esr_replay):
+        call.argtypes = [engine, c_char_p, c_size_t, c_char_p, c_size_t, c_bool, POINTER(c_size_t)]
+        call.restype = c_uint32
     calls.esr_close = library.esr_close
     calls.esr_close.argtypes, calls.esr_close.restype = [engine], None
     return calls

@@ -72,8 +72,10 @@ class Metrics:
     """Renewals that were put off because `before_renewal` failed."""
     audits: int
     """Audits of reports."""
+    background_audits: int
+    """Those of them that the second engine made."""
     auditing: float
-    """Seconds that they took."""
+    """Seconds that callers waited for them."""
     longest_audit: float
     """Seconds of the longest."""
     distances: Tuple[int, ...]
@@ -135,7 +137,8 @@ class Metrics:
             ("esr_carried_reports_total", "Reports carried over a renewal.", self.carried_reports),
             ("esr_renewals_put_off_total", "Renewals put off because before_renewal failed.", self.renewals_put_off),
             ("esr_audits_total", "Audits of reports.", self.audits),
-            ("esr_audit_seconds_total", "Time that they took.", self.auditing),
+            ("esr_background_audits_total", "Audits on the second engine.", self.background_audits),
+            ("esr_audit_seconds_total", "The time that callers waited for audits.", self.auditing),
             ("esr_store_writes_total", "Transactions of the store.", self.store_writes),
             ("esr_store_updates_total", "Updates in them.", self.store_updates),
         ]
@@ -160,14 +163,16 @@ class Counters:
     carried_reports: int = 0
     renewals_put_off: int = 0
     audits: int = 0
+    background_audits: int = 0
     auditing: float = 0.0
     longest_audit: float = 0.0
     distances: List[int] = field(default_factory=lambda: [0] * len(BOUNDS))
     distance: int = 0
 
-    def count_audit(self, distance: int, seconds: float) -> None:
+    def count_audit(self, distance: int, seconds: float, is_background: bool) -> None:
         """Counts an audit under the first bound that its distance does not exceed."""
         self.audits += 1
+        self.background_audits += is_background
         self.auditing += seconds
         self.longest_audit = max(self.longest_audit, seconds)
         self.distance += distance

@@ -4,15 +4,15 @@ A handle checks in each call, under the bank's lock, that its transaction is act
 ended transaction to another one after a renewal. An active transaction is carried over, and its handle gets the new number.
 """
 
-import ctypes
 import time
 from dataclasses import dataclass, field
 from types import TracebackType
-from typing import TYPE_CHECKING, Callable, Dict, Iterable, List, Optional, Tuple, Type
+from typing import TYPE_CHECKING, Callable, Dict, Iterable, List, Optional, Set, Tuple, Type
 
 from . import _checks as checks
 from . import _library as c
-from ._errors import REASONS, BankClosed, EsrError, HandleExpired, Misuse, OutOfRange, Overtaken, ReportCarried
+from ._errors import BankClosed, EsrError, HandleExpired, Misuse, Overtaken, ReportCarried
+from ._twin import Audit, audited
 from ._waiting import Waiting
 
 if TYPE_CHECKING:
@@ -120,11 +120,11 @@ class Transaction:
         number = f" {self.number}" if self.number else ""
         return f"<{type(self).__name__.lstrip('_')}{number}{name} of limit {self._limit}, {self._state}>"
 
-    def _begin(self, call: Callable[..., int], *arguments: int) -> None:
+    def _begin(self, kind: int) -> None:
         if self._state != NEW:
             raise Misuse(f"{self._shown()} began before; begin another {self._kind} instead")
         checks.no_event_loop()
-        self._bank._begin(self, call, self._limit, *arguments)
+        self._bank._begin(self, kind)
 
     def _carry(self, number: int, settled: int, numbers: Dict[int, int]) -> None:
         """Gives it its number in the next history of the bank. The lock is held."""
@@ -165,7 +165,7 @@ class Transaction:
         """
         bank, item = self._bank, self._bank._number_of(name)
         self._item = name
-        return bank._step(self, lambda: bank._answer(c.library.esr_read, self.number, item)).value
+        return bank._step(self, lambda: bank._read(self.number, item)).value
 
     def read_all(self, names: Iterable[str]) -> List[int]:
         """Reads items in one call. No other event comes between the reads, unless one is blocked and retried.
@@ -182,10 +182,13 @@ class Transaction:
 
         def rest() -> c.Reply:
             # a renewal may have changed its number since the last reply
-            replies = bank._answers([c.Event(c.READ, self.number, item, 0, 0) for item in items[len(values) :]])
-            values.extend(reply.value for reply in replies if reply.kind != c.REFUSED)
+            events: List[int] = []
+            for item in items[len(values) :]:
+                events += (c.READ, self.number, item, 0, 0)
+            replies = bank._packed(events)
+            values.extend(value for kind, value in zip(replies[::4], replies[3::4]) if kind != c.REFUSED)
             self._item = all_names[min(len(values), len(all_names) - 1)]
-            return replies[-1]
+            return c.Reply(*replies[-4:])
 
         if items:
             bank._step(self, rest)
@@ -232,9 +235,11 @@ class Update(Transaction):
     ) -> None:
         super().__init__(bank, limit, name, waiting, age)
         self._wrote: Dict[str, int] = {}
+        self._locked: Set[int] = set()
+        """The items that it has locked for writing."""
 
     def __enter__(self) -> "Update":
-        self._begin(c.library.esr_begin_update)
+        self._begin(c.BEGIN_UPDATE)
         return self
 
     def __exit__(
@@ -254,8 +259,9 @@ class Update(Transaction):
         """
         bank, item, number = self._bank, self._bank._number_of(name), checks.written(name, value)
         self._item = name
-        bank._step(self, lambda: bank._answer(c.library.esr_write, self.number, item, number))
+        bank._step(self, lambda: bank._write(self.number, item, number))
         self._wrote[name] = number
+        self._locked.add(item)
 
     def add(self, name: str, more: int) -> int:
         """Adds to an item and returns its new value. It takes the write lock before it reads, so two updates that add to one
@@ -273,11 +279,12 @@ class Update(Transaction):
 
         def read_and_write() -> c.Reply:
             nonlocal total
-            reply = bank._answer(c.library.esr_read_for_update, self.number, item)
+            reply = bank._read_for_update(self.number, item, item in self._locked)
             if reply.kind == c.REFUSED:
                 return reply
+            self._locked.add(item)
             total = checks.written(name, reply.value + delta)
-            return bank._answer(c.library.esr_write, self.number, item, total)
+            return bank._write(self.number, item, total)
 
         bank._step(self, read_and_write)
         self._wrote[name] = total
@@ -375,14 +382,11 @@ class Draft(Update):
             bank._make_room(self)
             if self._is_stale():
                 return False, None
-            reply = bank._answer(c.library.esr_begin_update, self._limit)
-            if reply.kind == c.REFUSED:
-                raise OutOfRange(REASONS[reply.refusal])
-            self.number, self._renewals = reply.txn, bank.renewals
+            self.number, self._renewals = bank._begin_txn(c.BEGIN_UPDATE, self._limit), bank.renewals
             bank._note_name(self)
             outcome = self._give_events()
             if not outcome:
-                bank._answer(c.library.esr_abort, self.number)
+                bank._abort(self.number)
                 return outcome, None
             ticket = bank._commit(self.number, self._wrote)
             bank._counters.updates += 1
@@ -400,7 +404,8 @@ class Draft(Update):
         try:
             replies = self._bank._packed(events)
         except BaseException:
-            self._bank._answer(c.library.esr_abort, self.number)
+            self._bank._feed.give_up()  # some of the events may have been executed
+            self._bank._abort(self.number)
             raise
         if replies[-4] == c.REFUSED:
             return None
@@ -431,7 +436,7 @@ class Query(Transaction):
         """The finding once the store has each update that it places before the report."""
 
     def __enter__(self) -> "Query":
-        self._begin(c.library.esr_begin_query, self._strict)
+        self._begin(c.BEGIN_STRICT_QUERY if self._strict else c.BEGIN_QUERY)
         return self
 
     def __exit__(
@@ -453,14 +458,25 @@ class Query(Transaction):
         """
         bank = self._bank
         if self._finding is None:
+            begun, answer = time.monotonic(), None
             with bank._lock:
                 if self._audited is None:
                     self._require_history()
-                    self._audited = self._audit()
-                    if self in bank._due:
-                        bank._due.remove(self)
+                    self._require_committed()
+                    answer = None if self._carried or bank._is_renewing else bank._feed.ask(bank._engine, self.number)
+                    if answer is None:
+                        self._audit(None, begun)
+            if answer is not None:
+                audit = answer.get()
+                with bank._lock:
+                    if self._audited is None:
+                        if audit is None:  # the second engine was given up
+                            self._require_history()
+                            bank._feed.give_up()
+                        self._audit(audit, begun)
             bank._wait_for_store()
             self._finding = self._audited
+        assert self._finding is not None
         return self._finding
 
     def _require_committed(self) -> None:
@@ -468,20 +484,20 @@ class Query(Transaction):
             state = "has aborted" if self._state == ENDED else "is active until the end of its `with` statement"
             raise EsrError(f"{self._shown()} {state}; only a report that has committed is audited")
 
-    def _audit(self) -> Finding:
-        self._require_committed()
-        begun = time.monotonic()
+    def _audit(self, audit: Optional[Audit], begun: float) -> None:
+        """Keeps its finding, by an audit of the second engine if there is one. The lock is held."""
+        bank, is_background = self._bank, audit is not None
         if self._carried:
-            bound = self._settled + self._bank._account(self.number).charged
-            self._bank._counters.count_audit(bound, time.monotonic() - begun)
-            return Finding(bound, bound, (), self, self._carried)
-        # The buffer is large enough for every update, so the audit is made once.
-        found, capacity = c.Finding(), max(1, self._bank._counts().transactions)
-        before = (ctypes.c_uint32 * capacity)()
-        status = c.library.esr_audit(self._bank._engine, self.number, before, capacity, found)
-        self._bank._check(status)
-        self._bank._counters.count_audit(found.distance, time.monotonic() - begun)
-        return Finding(found.distance, found.imported, tuple(before[: found.count]), self)
+            bound = self._settled + bank._account(self.number).charged
+            self._audited = Finding(bound, bound, (), self, self._carried)
+        else:
+            if audit is None:
+                status, audit = audited(bank._engine, self.number)
+                bank._check(status)
+            self._audited = Finding(*audit, self)
+        bank._counters.count_audit(self._audited.distance, time.monotonic() - begun, is_background)
+        if self in bank._due:
+            bank._due.remove(self)
 
     def bundle(self) -> bytes:
         """Returns its audit as JSON, which `esr check` verifies without this engine. Raises `ReportCarried` if the report was

@@ -10,6 +10,7 @@ import time
 import unittest
 from unittest import mock
 
+import esr
 from esr import Bank, Blocked, HandleExpired, HistoryFull, ReportCarried
 from esr._waiting import WaitGraph
 
@@ -136,6 +137,44 @@ class Carried(unittest.TestCase):
             self.assertLessEqual(bank.renewals, renewals + 1)
         self.assertEqual(bank["hits"], 1)
 
+    def test_histories_with_carried_transactions_are_short(self):
+        """They grow by their entries at the opening and a number. Once the transaction has ended, a history is as long as
+        before."""
+        bank = Bank({"a": 0, "hits": 0})
+
+        def length(renewals):
+            while bank.renewals < renewals:
+                entries = bank.counts.entries
+                bank.transact(0, lambda update: update.add("hits", 1))
+            return entries
+
+        with mock.patch("esr._bank.NEARLY_FULL", 990_000), mock.patch("esr._bank.SHORT", 1_000):
+            with bank.report(0) as report:
+                report.read_all(["a"] * 500)
+                self.assertIn(length(1), range(9_990, 10_010))
+                for renewals in (2, 3):
+                    self.assertEqual(bank.counts.entries, 501 + 4)
+                    self.assertIn(length(renewals), range(2 * 501 + 1_000, 2 * 501 + 1_010))
+            self.assertIn(length(4), range(9_990, 10_010))
+            self.assertIn(length(5), range(9_990, 10_010))
+
+    def test_only_a_renewal_with_active_transactions_searches_the_history(self):
+        bank, calls = Bank({"a": 0, "hits": 0}), []
+        library = esr._bank.c.library
+        for name in ("esr_renew", "esr_renew_carrying"):
+            call = getattr(library, name)
+            setattr(library, name, lambda *words, call=call, name=name: calls.append(name) or call(*words))
+            self.addCleanup(setattr, library, name, call)
+        renew(bank, 1)
+        with bank.update(0) as update:
+            update.add("a", 1)
+            renew(bank, 2)
+        with bank.report(0) as report:
+            report.read("a")
+        renew(bank, 3)
+        self.assertEqual(calls, ["esr_renew", "esr_renew_carrying", "esr_renew"])
+        self.assertEqual((bank["a"], bank.ledger().splitlines()[1][:5]), (1, "1,t1,"))
+
     def test_a_soak_next_to_long_transactions(self):
         """Threads move money, next to reports and updates that outlive many histories: each sum is off by at most its
         finding, and nothing is lost."""
@@ -183,7 +222,8 @@ class Carried(unittest.TestCase):
             except BaseException as why:
                 errors.append(why)
 
-        bodies = [lambda seed=seed: client(seed) for seed in (1, 2, 3)] + [clerk, slow]
+        # the clients come last: next to them it may take a second to start a thread on one processor
+        bodies = [clerk, slow, *[lambda seed=seed: client(seed) for seed in (1, 2, 3)]]
         # short histories, so that a short run has many renewals
         with mock.patch("esr._bank.NEARLY_FULL", 999_000):
             threads = [threading.Thread(target=caught, args=(body,)) for body in bodies]

@@ -190,6 +190,7 @@ class Metrics(unittest.TestCase):
                 "esr_carried_updates_total": 0,
                 "esr_carried_reports_total": 1,
                 "esr_audits_total": 2,
+                "esr_background_audits_total": 2,
                 "esr_store_writes_total": store_writes,
                 "esr_store_updates_total": done["updates"],
                 "esr_active": 1,
