@@ -234,7 +234,7 @@ class Auditor:
             self._disconnect()
 
     def _disconnect(self) -> None:
-        """Answers the questions that are left."""
+        """Refuses the questions that are left."""
         while True:
             try:
                 part = self.parts.get_nowait()

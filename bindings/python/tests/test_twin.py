@@ -197,7 +197,7 @@ class Findings(unittest.TestCase):
         self.assertEqual((long.finding.is_exact, bank.metrics().background_audits), (False, 1))
 
     def test_a_lock_that_is_taken_without_a_write(self):
-        """An update that fails to add has the write lock all the same. So it comes after an update that has read the item."""
+        """An update that fails to add has the write lock all the same. So its placement is after an update that has read the item."""
         bank = Bank({"a": 0, "b": 0, "c": 0})
         with bank.report(100) as report:
             c = report.read("c")
