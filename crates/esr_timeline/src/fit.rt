@@ -1,15 +1,19 @@
 //! Fits a timeline into the maximum width, or into a few bands of it. It is built with all events, and as long as it
 //! does not fit, with fewer: first without the labels of events on which no charge depends, then without these events,
-//! then with the first charges of a ranking only (`causes`). One band is tried first, unless labels would be omitted.
+//! then with the first charges of a ranking only (`causes`) and as many of the reads that are off. One band is tried first,
+//! unless labels would be omitted.
 
 use crate::causes::Causes;
 use crate::charges::{
     ChargedQueries, between, charges_to, drawable, greatest, sum_of, with_exports,
 };
-use crate::lanes::{MAX_LANES, concerned, farthest, first_begun, lanes_of};
-use crate::marks::{keys_of, mark_keys, mark_query_reads, marks_of, marks_on};
+use crate::lanes::{MAX_LANES, concerned, farthest, first_begun, lanes_of, nearest_to};
+use crate::marks::{count_off_reads, keys_of, mark_keys, mark_query_reads, marks_of, marks_on};
 use crate::source::Source;
-use esr_chart::{Arrow, Drawn, Format, Lane, Layout, Mark, Order, Rest, Scene, Spacing, layout_of};
+use esr_chart::{
+    Arrow, Drawn, Format, Heads, Lane, Layout, Mark, Nearest, Order, Rest, Scene, Spacing,
+    layout_of,
+};
 use esr_history::TxnId;
 use esr_report::name_of_transaction;
 use esr_text::first;
@@ -20,18 +24,24 @@ use std::alloc::{AllocError, Global};
 const WIDE_FORMAT: Format = Format {
     width: 1064,
     bands: 3,
+    height: 1400,
+    heads: Heads::InFront,
 };
 
 /// The narrow layout of a timeline of one query, for phones.
 const NARROW_FORMAT: Format = Format {
     width: 360,
     bands: 12,
+    height: 2700,
+    heads: Heads::Above,
 };
 
 /// The narrow layout of a whole script, which shows all that the wide one shows.
 const WHOLE_NARROW_FORMAT: Format = Format {
     width: 360,
     bands: FEW_ENTRIES,
+    height: u32::MAX,
+    heads: Heads::Above,
 };
 
 /// A script with at most this many transactions and entries is drawn as a whole, if it fits.
@@ -44,7 +54,7 @@ enum Detail {
     All,
     /// The events that charges depend on, and blocked ones.
     Keys,
-    /// The events that the first charges of the ranking depend on, at most this many.
+    /// The events that the first charges of the ranking depend on, at most this many, and as many of the reads that are off.
     Greatest(usize),
     /// The first events, at most this many.
     First(usize),
@@ -60,26 +70,37 @@ struct Stage {
 const WIDE: Spacing = Spacing {
     has_all_labels: true,
     pitch: 40,
+    is_folded: false,
 };
 
 const CLOSE: Spacing = Spacing {
     has_all_labels: true,
     pitch: 22,
+    is_folded: false,
 };
 
 const SNUG: Spacing = Spacing {
     has_all_labels: true,
     pitch: 14,
+    is_folded: false,
+};
+
+const FOLDED: Spacing = Spacing {
+    has_all_labels: true,
+    pitch: 14,
+    is_folded: true,
 };
 
 const LOOSE: Spacing = Spacing {
     has_all_labels: false,
     pitch: 22,
+    is_folded: true,
 };
 
 const TIGHT: Spacing = Spacing {
     has_all_labels: false,
     pitch: 14,
+    is_folded: true,
 };
 
 /// All events, with the largest distances between them that a layout has, then with less.
@@ -98,22 +119,28 @@ const ALL_SNUG: Stage = Stage {
     spacing: SNUG,
 };
 
+const ALL_FOLDED: Stage = Stage {
+    detail: Detail::All,
+    spacing: FOLDED,
+};
+
 const ALL_TIGHT: Stage = Stage {
     detail: Detail::All,
     spacing: TIGHT,
 };
 
 /// The stages that omit nothing.
-static ALL: [Stage; 3] = [ALL_WIDE, ALL_CLOSE, ALL_SNUG];
+static ALL: [Stage; 4] = [ALL_WIDE, ALL_CLOSE, ALL_SNUG, ALL_FOLDED];
 
 /// The stages of a whole script.
-static WHOLE: [Stage; 4] = [ALL_WIDE, ALL_CLOSE, ALL_SNUG, ALL_TIGHT];
+static WHOLE: [Stage; 5] = [ALL_WIDE, ALL_CLOSE, ALL_SNUG, ALL_FOLDED, ALL_TIGHT];
 
 /// The stages of one query.
-static ONE: [Stage; 22] = [
+static ONE: [Stage; 23] = [
     ALL_WIDE,
     ALL_CLOSE,
     ALL_SNUG,
+    ALL_FOLDED,
     ALL_TIGHT,
     Stage {
         detail: Detail::Keys,
@@ -254,6 +281,8 @@ struct Material<'a> {
     lanes: Vec<Lane<'a>>,
     marks: Vec<Mark<'a>>,
     charges: Vec<Arrow<'a>>,
+    /// The nearest placement of the query, if that is off.
+    nearest: Option<Nearest<'a>>,
 }
 
 /// What is drawn at a stage.
@@ -264,6 +293,8 @@ struct Choice<'a> {
     arrows: Vec<Arrow<'a>>,
     /// The number of events on these lanes that are not drawn.
     hidden: usize,
+    /// The number of reads that are off among these events.
+    hidden_off: usize,
 }
 
 impl<'a> Choice<'a> {
@@ -308,6 +339,14 @@ fn lanes_of_marks<'a>(
     Ok(kept)
 }
 
+/// Returns the maximum number of reads that are off that are drawn.
+fn max_off_reads(detail: Detail) -> usize {
+    match detail {
+        Detail::Greatest(upper_bound) => upper_bound.max(1),
+        Detail::All | Detail::Keys | Detail::First(_) => usize::MAX,
+    }
+}
+
 /// Returns whether blocked events are drawn.
 fn has_blocked(detail: Detail) -> bool {
     !matches!(detail, Detail::Greatest(upper_bound) if upper_bound < 16)
@@ -344,6 +383,7 @@ impl<'a> Material<'a> {
         Rest {
             transactions: begun.saturating_sub(choice.lanes.len()) as u64,
             events: choice.hidden as u64,
+            off_reads: choice.hidden_off as u64,
             charges: charges as u64,
             amount: sum_of(&self.charges).saturating_sub(sum_of(&choice.arrows)),
         }
@@ -358,7 +398,8 @@ impl<'a> Material<'a> {
         arrows: &[Arrow<'a>],
     ) -> Result<Vec<Mark<'a>>, AllocError> {
         let mut all = marks_on(alloc, &self.marks, &self.lanes, lanes)?;
-        mark_keys(&mut all, arrows, has_blocked(detail));
+        let reads = max_off_reads(detail);
+        mark_keys(alloc, &mut all, arrows, reads, has_blocked(detail))?;
         if detail == Detail::All {
             mark_query_reads(&mut all, lanes);
         }
@@ -375,6 +416,7 @@ impl<'a> Material<'a> {
         let all = self.marks(alloc, detail, &choice.lanes, &choice.arrows)?;
         choice.marks = drawn_marks(alloc, &all, detail)?;
         choice.hidden = all.len().saturating_sub(choice.marks.len());
+        choice.hidden_off = count_off_reads(&all).saturating_sub(count_off_reads(&choice.marks));
         choice.arrows = shown(alloc, &choice.arrows, &choice.marks)?;
         Ok(())
     }
@@ -399,6 +441,7 @@ impl<'a> Material<'a> {
             marks: Vec::new(alloc),
             arrows: Vec::new(alloc),
             hidden: 0,
+            hidden_off: 0,
         };
         self.choose(alloc, detail, &mut choice)?;
         Ok(choice)
@@ -432,6 +475,7 @@ impl<'a> Material<'a> {
             all_charges,
             order: self.order(),
             rest,
+            nearest: self.nearest,
         }
     }
 
@@ -483,8 +527,8 @@ impl<'a> Material<'a> {
         stages: &[Stage],
         format: Format,
     ) -> Result<Picture<'a>, AllocError> {
-        let width = format.width;
-        if let Some(picture) = self.first_fitting(alloc, all(), Format { width, bands: 1 })? {
+        let one_band = Format { bands: 1, ..format };
+        if let Some(picture) = self.first_fitting(alloc, all(), one_band)? {
             return Ok(picture);
         }
         if let Some(picture) = self.first_fitting(alloc, stages, format)? {
@@ -552,12 +596,14 @@ fn material_on<'a>(
 ) -> Result<Material<'a>, AllocError> {
     let lanes = with_exports(alloc, &lanes, &charges)?;
     let marks = marks_of(alloc, source, &lanes)?;
+    let nearest = nearest_to(alloc, source, query)?;
     Ok(Material {
         source,
         query,
         lanes,
         marks,
         charges,
+        nearest,
     })
 }
 

@@ -2,7 +2,7 @@
 
 use crate::causes::ranking;
 use crate::source::Source;
-use esr_chart::{Arrow, Lane};
+use esr_chart::{Arrow, Lane, Nearest};
 use esr_history::{Entry, Event, Refusal, Reply, TxnId};
 use esr_outcomes::{Auditor, TxnKind, kind_at, kinds_of, outcome_of};
 use esr_report::name_of_transaction;
@@ -185,6 +185,41 @@ fn nearest_of(alloc: Global, source: Source<'_>, lane: &Lane<'_>) -> Result<Vec<
     match source.auditor.summary(alloc, lane.txn)? {
         Some(audit) => source.auditor.values_after(alloc, &audit.before),
         None => Ok(Vec::new(alloc)),
+    }
+}
+
+/// Returns the one of some updates that committed last, with the index of the entry.
+fn last_of(source: Source<'_>, updates: &[TxnId]) -> Option<(TxnId, usize)> {
+    let mut last: Option<(TxnId, usize)> = None;
+    for update in updates {
+        let facts = source.history.facts(*update);
+        let end = facts.and_then(|facts| facts.end).unwrap_or(0) as usize;
+        if last.is_none_or(|(_, place)| place < end) {
+            last = Some((*update, end));
+        }
+    }
+    last
+}
+
+/// Returns the nearest placement of a query, if it has committed and is off.
+pub fn nearest_to<'a>(
+    alloc: Global,
+    source: Source<'a>,
+    query: Option<TxnId>,
+) -> Result<Option<Nearest<'a>>, AllocError> {
+    let Some(query) = query else {
+        return Ok(None);
+    };
+    match source.auditor.summary(alloc, query)? {
+        Some(audit) if audit.distance > 0 => {
+            let last = last_of(source, &audit.before);
+            Ok(Some(Nearest {
+                updates: audit.before.len() as u64,
+                last: last.map_or("", |(txn, _)| name_of_transaction(source.transactions, txn)),
+                step: last.map_or(0, |(_, place)| (place as u64).saturating_add(1)),
+            }))
+        }
+        _ => Ok(None),
     }
 }
 
