@@ -71,7 +71,7 @@ fn transactions_and_audits() {
     });
     let audited = |span: u64, charged: u64, distance: u64| {
         format!(
-            "{span} event: DEBUG esr background=false charged={charged} distance={distance} message=audited time=.."
+            "{span} event: DEBUG esr background=true charged={charged} distance={distance} message=audited time=.."
         )
     };
     let mut expected = vec![
