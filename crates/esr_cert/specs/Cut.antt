@@ -30,6 +30,6 @@ abbrev pub HasFiniteCapacity : (ℕ → Bool) → List Arc → Type 0
 HasFiniteCapacity in_set arcs =
     (i : ℕ) → i < length arcs → leaves in_set (arc_at arcs i) ≡ true → IsFinite (arc_at arcs i).capacity
 
--- the set of the source, which is node n, and of a set of updates, which are the nodes below n
+-- a set of updates, which are nodes below n, together with the source, which is node n
 abbrev pub with_source : ℕ → (ℕ → Bool) → ℕ → Bool
 with_source n in_set v = if nat_lt v n then in_set v else (v == n)

@@ -7,7 +7,7 @@ use Rattle.esr_order.specs.declared.search.Items.{Items}
 abbrev pub marked : List Bool → ℕ → Bool
 marked marks i = slice_index_or marks i false
 
--- a write of item x, or a read of it
+-- an access is a write of item x (writes is true), or a read of item x (writes is false)
 abbrev pub is_access : Bool → ℕ → Access → Bool
 is_access writes x a = (if writes then a.writes else not a.writes) && (a.item.0 == x)
 

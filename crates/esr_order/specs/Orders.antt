@@ -63,6 +63,7 @@ pub record IsClosedAt (us : List ℕ) (o : ConflictOrder) (S : ℕ → Bool) : T
   pub downward : All (λ p. IsTrue (S (nth us p.1)) → IsTrue (S (nth us p.0))) o.before
   pub holds_must : All (λ i. IsTrue (S (nth us i))) o.must
 
+-- IsConflictOrder, over the updates us: some of the updates of history h that include every update that query q must see
 pub record IsConflictOrderOn (h : Schedule) (q : ℕ) (us : List ℕ) (o : ConflictOrder) : Type 0 where
   pub commits : map (λ t. t.0) o.commits ≡ us
   pub serial : IsSerialOrder h us us

@@ -63,7 +63,7 @@ struct Items {
 
 impl Items {
     /// Returns the items that a query read.
-    fn is_problem<M: Metric>(
+    fn read_by<M: Metric>(
         alloc: Global,
         history: &History<M>,
         q: TxnId,
@@ -134,7 +134,7 @@ pub fn relevant_of<M: Metric>(
     ensures relevant { IfOk result (λ n. AreRelevant history.now.schedule q.0 (map (λ t. t.0) n.updates.items)) }
 {
     let _invariant = history.log(); // brings the invariant into the proof
-    let mut items = Items::is_problem(alloc, history, q)?;
+    let mut items = Items::read_by(alloc, history, q)?;
     let mut writes = vec![in alloc; 0u32; history.items() as usize]?;
     let mut relevant = Vec::new(alloc);
     let mut list = Vec::new(alloc);

@@ -4,7 +4,7 @@ use Rattle.esr_order.specs.Scans.{Access}
 use Rattle.esr_order.specs.BackwardSearch.{marked, is_access}
 use Rattle.esr_order.proofs.Accessed.{accesses_inside}
 use Rattle.esr_order.proofs.Lists.{written_back}
-use Rattle.esr_order.proofs.search.Items.is_problem.Goals as goal
+use Rattle.esr_order.proofs.search.Items.read_by.Goals as goal
 
 pub mark-requires : goal.mark-requires
 mark-requires g c = record {
