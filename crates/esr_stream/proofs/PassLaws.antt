@@ -5,14 +5,14 @@ use Rattle.std.proofs.lemmas.Bool.{cases_eq}
 use Rattle.esr_history.specs.Events.{last_value}
 use Rattle.esr_history.specs.Machine.{DistanceFunction, Schedule, IsLegal}
 use Rattle.esr_history.specs.Serial.{values_by}
-use Rattle.esr_history.specs.Queries.{updates_committed_before, must}
+use Rattle.esr_history.specs.Queries.{updates_committed_before}
 use Rattle.esr_order.specs.Chains.{nth}
 use Rattle.esr_order.specs.declared.accesses.Access.{Access}
 use Rattle.esr_order.specs.Scans.{accesses_in}
 use Rattle.esr_order.proofs.ConflictOrder.{in_order}
-use Rattle.esr_bound.specs.Amounts.{total, mark_at, left_by_all, HasSlack, Shows}
-use Rattle.esr_bound.proofs.LowerBound.{all_more, law_of_start, law_of_updates, law_of_end}
-use Rattle.esr_stream.specs.Passes.{ItemState, has_slack_at, amount_at, amounts_sum, AreStates, IsRowApplied, IsPassed, StayMarked}
+use Rattle.esr_bound.specs.Amounts.{total, mark_at, left_by, left_by_all, HasSlack, Shows}
+use Rattle.esr_bound.proofs.LowerBound.{all_more, left_all, law_of_updates, law_of_end}
+use Rattle.esr_stream.specs.Passes.{ItemState, has_slack_at, amount_at, amounts_sum, AreFirst, AreStates, IsRowApplied, IsPassed, StayMarked}
 use Rattle.esr_stream.proofs.StepLaws.{total_states, states_after, step_made, slack_is}
 
 pub mark_same : (marks : List Bool) (k : ℕ) (marked : Bool) → k < length marks → mark_at (set marks k marked) k ≡ marked
@@ -69,17 +69,26 @@ module _ (d : DistanceFunction) (h : Schedule) (q : ℕ) (legal : IsLegal d h) (
           closed (λ s. has k inside s) (so_far.carries S closed has);
     }
 
-  -- a pass starts
-  pub passed_start : (first : ℕ) (marks : List Bool) (states : List ItemState) → first ≡ length (must h q) → AreStates C h q first marks states → IsPassed (length h.opening) C h q (amounts_sum states) first marks marks states
-  passed_start first marks states is are = record {
+  -- a pass starts at a position before which all updates are marked
+  pub passed_from : (k worth : ℕ) (marks : List Bool) (states : List ItemState) → k ≤ length (updates_committed_before h q) → AreFirst k marks → worth ≤ amounts_sum states → AreStates C h q k marks states → IsPassed (length h.opening) C h q worth k marks marks states
+  passed_from k worth marks states inside firsts low are = record {
     states = are;
     later = λ j l. refl;
     carries = λ S closed has.
-        law_of_start d h q (length h.opening) C (amounts_sum states) first (amount_at states) marks S legal (record {
-          seen = is;
-          under = λ x l. let u = are.under x l in let c = are.cost x l in omega (arith, u, c);
-          sum = sym (ap (λ m. total m (amount_at states)) (sym are.len) ∙ total_states (λ (i : ItemState). i.amount) states);
-        }) closed;
+        let all : (i : ℕ) → i < k → i < length (updates_committed_before h q) → S (nth (updates_committed_before h q) i) ≡ true = λ i l m. has i m (firsts i l) in
+        record {
+          own = amount_at states;
+          under = λ x l.
+              let u = are.under x l in
+              let c = are.cost x l in
+              let e : C x (left_by h q S k x) ≡ C x (left_by_all h q k x) = ap (C x) (left_all h q (in_order d h q legal) S k x (λ i m n w. all i m n)) in
+              omega (arith, u, c, e);
+          same = λ x l w. refl;
+          sum =
+              let t : total (length h.opening) (amount_at states) ≡ amounts_sum states = ap (λ m. total m (amount_at states)) (sym are.len) ∙ total_states (λ (i : ItemState). i.amount) states in
+              omega (arith, low, t);
+          marked = inl (λ i l m. all i l (omega (arith, l, inside)));
+        };
   }
 
   -- and ends

@@ -2,6 +2,7 @@
 use Rattle.std.proofs.Common.{All, ◌≡◌, ℕ, zero, suc, ℤ, ◌+◌, ◌<◌, ◌≤◌, Bool, true, false, cond, ◌&&◌, eqb, List, [], ◌∷◌, ◌++◌, length, length-append, filter, map, sum_by, refl, sym, ap, ◌∙◌, subst, inl, inr, arith, ◌⊎◌, nat_lt, eq-eqb}
 use Rattle.std.specs.List.{range_with_len, list_any, AllByRecursion}
 use Rattle.std.proofs.lemmas.Bool.{cases_eq, and_parts, ltb-true}
+use Rattle.std.proofs.lemmas.List.{length-map}
 use Rattle.std.proofs.lemmas.List.Sums.{sum_by-cons}
 use Rattle.esr_items.specs.Values.{value_at, IsValue}
 use Rattle.std.proofs.lemmas.List.Elements.{All-from_recursion, recursion_from_All}
@@ -20,7 +21,7 @@ use Rattle.esr_order.specs.Chains.{nth}
 use Rattle.esr_bound.specs.Amounts.{total, mark_at, Wrote, left_by_all, AreCovered, HasSlack, IsStep}
 use Rattle.esr_history.proofs.LastWriter.{empty_or_not}
 use Rattle.esr_history.proofs.Membership.{In, In-any, In-of_filter, each_in, each_at}
-use Rattle.esr_stream.specs.Passes.{ItemState, state_at, is_write, written_in, has_slack_at, amount_at, AreStates, AreOpening, IsRowApplied}
+use Rattle.esr_stream.specs.Passes.{ItemState, state_at, is_write, written_in, has_slack_at, amount_at, as_covered, AreFirst, AreStates, AreOpening, IsRowApplied}
 
 map_if : {X : Type 0} (f : X → ℤ) (b : Bool) (x : X) (xs : List X) → map f (cond b (x ∷ xs) xs) ≡ cond b (f x ∷ map f xs) (map f xs)
 map_if f true x xs = refl
@@ -228,3 +229,24 @@ accesses_valued d h opened legal t = All-from_recursion (λ (a : Access). IsValu
     let o = of_map access_of (filter (λ (o : Operation). eqb o.txn t) (operations h)) a i in
     let v : IsValue o.0.value = each_at (λ (o : Operation). IsValue o.value) (operations h) o.0 (recursion_from_All (λ (o : Operation). IsValue o.value) (operations h) (legal_within_ranges d h opened legal).values) (In-of_filter (λ (o : Operation). eqb o.txn t) (operations h) o.0 o.1).0 in
     subst IsValue (ap (λ (a : Access). a.value) o.2) v))
+
+-- ---- the states after updates that are all marked
+
+covered_at : (states : List ItemState) (x : ℕ) → x < length states → state_at (map as_covered states) x ≡ as_covered (state_at states x)
+covered_at [] x l = absurd (omega arith)
+covered_at (s ∷ states) zero l = refl
+covered_at (s ∷ states) (suc x) l = covered_at states x (omega arith)
+
+pub states_covered : (h : Schedule) (q : ℕ) (C : ℕ → ℤ → ℕ) (k : ℕ) (marks ms : List Bool) (states copy : List ItemState) → copy ≡ map as_covered states → AreFirst k ms → AreStates C h q k marks states → AreStates C h q k ms copy
+states_covered h q C k marks ms states copy e firsts are =
+    let at : (x : ℕ) → x < length h.opening → state_at copy x ≡ as_covered (state_at states x) = λ x l. ap (λ (m : List ItemState). state_at m x) e ∙ covered_at states x (omega (arith, l, are.len)) in
+    record {
+      len = ap (λ (m : List ItemState). length m) e ∙ length-map states as_covered ∙ are.len;
+      cost = λ x l. ap (λ (i : ItemState). i.cost) (at x l) ∙ are.cost x l;
+      under = λ x l.
+          let a = ap (λ (i : ItemState). i.amount) (at x l) in
+          let c = ap (λ (i : ItemState). i.cost) (at x l) in
+          let u = are.under x l in
+          omega (arith, a, c, u);
+      covered = λ x l w i m t. inl (firsts i m);
+    }

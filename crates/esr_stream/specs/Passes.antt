@@ -29,6 +29,13 @@ amount_at states x = (state_at states x).amount
 abbrev pub amounts_sum : List ItemState → ℕ
 amounts_sum states = sum_by (λ i. i.amount) states
 
+abbrev pub costs_sum : List ItemState → ℕ
+costs_sum states = sum_by (λ i. i.cost) states
+
+-- the state of an item whose writers are all covered
+abbrev pub as_covered : ItemState → ItemState
+as_covered s = record { cost = s.cost; amount = s.amount; covered = true }
+
 -- whether the amount of the version of item x is below its cost, and the writers of x are covered by marks
 abbrev pub has_slack_at : List ItemState → ℕ → Bool
 has_slack_at states x = (state_at states x).covered && nat_lt (state_at states x).amount (state_at states x).cost

@@ -17,7 +17,8 @@ use esr_items::Metric;
 use esr_order::{Access, Index};
 use std::alloc::{AllocError, Global};
 
-fn is_marked(flags: &[bool], i: usize) -> bool
+/// Returns the flag at a position, `false` past the end.
+pub fn is_marked(flags: &[bool], i: usize) -> bool
     ensures { result ≡ marked flags.now i }
 {
     flags.get(i).copied().unwrap_or(false)
@@ -109,7 +110,8 @@ fn is_more(more: bool, is_member: bool, was_member: bool) -> bool {
     more || is_member != was_member
 }
 
-/// Marks the updates that precede marked updates. Returns whether it marked any.
+/// Marks the updates that precede marked updates, if all updates before the position `from` are marked. Returns whether it
+/// marked any.
 ///
 /// # Errors
 ///
@@ -119,6 +121,7 @@ pub fn close<M: Metric>(
     history: &History<M>,
     index: &Index,
     updates: &[TxnId],
+    from: usize,
     marks: &mut [bool],
     q: TxnId,
 ) -> Result<bool, AllocError>
@@ -131,13 +134,13 @@ pub fn close<M: Metric>(
         → AreForced n C history.now.schedule q.0 worth marks.old
         → AreForced n C history.now.schedule q.0 worth marks.new) }
     ensures closed { IfOk result (λ _. AreFirst (length (must history.now.schedule q.0)) marks.old
-        → IsClosed history.now.schedule q.0 (among_marked (updates_committed_before history.now.schedule q.0) marks.new)) }
+        → AreFirst from marks.old → IsClosed history.now.schedule q.0 (among_marked (updates_committed_before history.now.schedule q.0) marks.new)) }
 {
     let _invariant = history.log(); // brings the invariant into the proof
     let mut later = no_later(alloc, history.items())?;
     let mut list = Vec::new(alloc);
     let mut more = false;
-    for i in (0..updates.len()).rev() {
+    for i in (from..updates.len()).rev() {
         let row = index.accesses_of(history, updates[i], &mut list)?;
         let is_member = later.is_member(row, marks[i]);
         more = is_more(more, is_member, marks[i]);

@@ -1,101 +1,142 @@
 //! Proposes an amount for each version. No contract constrains the amounts: the pass checks them.
 //!
-//! It visits the updates from the last to the first. The last version of each item gets its cost as its amount. For
-//! each update, the sum of the amounts of the versions that it writes is distributed over the versions that it overwrites,
-//! in proportion to their costs. If these costs are less than the sum, a breadth-first search looks for another version of
-//! an earlier update with spare capacity for the rest. It follows updates: from an update to the update that wrote a version
-//! with spare capacity that it overwrites, and to the update that overwrites a version with an amount that it writes. The
-//! amounts along the path change by the rest, so that each update between keeps its sum. `MAX_LOOKS` bounds the work of all
-//! searches.
+//! It lists the versions in commit order, each with the cost of the version that it overwrites, and then visits the updates
+//! from the last to the first. The last version of each item gets its cost as its amount. For each update, the sum of the
+//! amounts of the versions that it writes is distributed over the versions that it overwrites, in proportion to their costs.
+//! If these costs are less than the sum, a breadth-first search looks for another version of an earlier update with spare
+//! capacity for the rest. It follows updates: from an update to the update that wrote a version with spare capacity that it
+//! overwrites, and to the update that overwrites a version with an amount that it writes. The amounts along the path change
+//! by the rest, so that each update between keeps its sum. `MAX_LOOKS` bounds the work of all searches.
+//!
+//! A version takes 16 bytes. Its amount replaces the cost that is stored with it when the sweep has passed it, and a search
+//! computes the costs along its path again. Rejected: separate lists of costs, amounts, owners and links, which take 28
+//! bytes and several passes.
 ghost use Rattle.std.specs.Prelude.{◌≡◌, ◌<◌, All, length};
 ghost use Rattle.esr_items.specs.Values.{IsValue};
-ghost use Rattle.esr_order.specs.Index.{IsWholeIndexOf};
 ghost use Rattle.esr_stream.specs.Reads.{AreRead};
 
 use crate::reads::{OFFSET, raised_cost};
-use esr_history::{History, TxnId};
+use esr_history::History;
 use esr_items::{ItemId, Metric};
-use esr_order::{Access, Index};
+use esr_order::Access;
 use std::alloc::{AllocError, Global};
 
-/// The place of no version.
-const NONE: u32 = u32::MAX;
+/// The place of no version. A place takes 31 bits.
+pub const NONE: u32 = u32::MAX >> 1;
 
-/// The number of accesses that all searches visit together, for each update of the query.
-const MAX_LOOKS: u64 = 400;
+/// The position of no update.
+pub const NOBODY: u16 = u16::MAX;
+
+/// A version of an item, or the place of a read, which has no version.
+#[derive(Clone, Copy)]
+pub struct Version {
+    /// Its amount. Before the sweep has passed it: the cost of the version that it overwrites.
+    pub amount: u64,
+    /// Twice the place of the version that it overwrites (`NONE` for a read), plus 1 if its amount is less than its cost.
+    link: u32,
+    /// The update that leaves it.
+    pub owner: u16,
+    /// The update that overwrites it.
+    pub next: u16,
+}
+
+impl Version {
+    pub fn earlier(self) -> u32 {
+        self.link >> 1
+    }
+
+    pub fn has_spare(self) -> bool {
+        self.link & 1 == 1
+    }
+
+    fn with_next(self, next: u16) -> Version {
+        Version {
+            amount: self.amount,
+            link: self.link,
+            owner: self.owner,
+            next,
+        }
+    }
+
+    fn without_link(self) -> Version {
+        Version {
+            amount: 0,
+            link: link_to(NONE),
+            owner: self.owner,
+            next: self.next,
+        }
+    }
+
+    /// Returns the version with another amount.
+    fn with_amount(self, amount: u64, has_spare: bool) -> Version {
+        let spare = if has_spare { 1 } else { 0 };
+        Version {
+            amount,
+            link: (self.link >> 1 << 1) | spare,
+            owner: self.owner,
+            next: self.next,
+        }
+    }
+}
+
+/// Returns the link to an earlier version.
+fn link_to(earlier: u32) -> u32 {
+    earlier.min(NONE) << 1
+}
+
+/// The version of an item that is the current one at a position: at the end while the versions are listed, then at the
+/// position of the sweep.
+#[derive(Clone, Copy)]
+struct Cell {
+    place: u32,
+    /// Its cost, plus the offset.
+    cost: u64,
+    amount: u64,
+}
 
 /// The versions of the items: the opening values by item, then one version for each access, in order.
 #[derive(Drop)]
-struct Versions {
+pub struct Draft {
+    pub versions: Vec<Version>,
     /// The first place of each update, and the end of the last one.
     starts: Vec<u32>,
-    /// The update that leaves each version.
-    owners: Vec<u32>,
-    /// The place of the version that each version overwrites; `NONE` for a read.
-    earlier: Vec<u32>,
-    /// The place of the version that overwrites each version.
-    later: Vec<u32>,
-    /// The cost of each version, plus the offset.
-    costs: Vec<u64>,
-    /// The amount of each version.
-    amounts: Vec<u64>,
+    cells: Vec<Cell>,
 }
 
-fn at32(list: &[u32], i: u32) -> u32 {
-    match list.get(i as usize) {
-        Some(n) => *n,
-        None => NONE,
-    }
+/// The sum of the amounts that an update leaves, the sum of the costs that it overwrites, and the number of versions that
+/// it overwrites.
+#[derive(Clone, Copy)]
+struct Sums {
+    due: u64,
+    cost: u64,
+    count: u64,
 }
 
-fn at64(list: &[u64], i: u32) -> u64 {
-    match list.get(i as usize) {
-        Some(n) => *n,
-        None => 0,
-    }
-}
-
-fn set32(list: &mut [u32], i: u32, n: u32) {
-    if (i as usize) < list.len() {
-        list[i as usize] = n;
-    }
-}
-
-fn set64(list: &mut [u64], i: u32, n: u64) {
-    if (i as usize) < list.len() {
-        list[i as usize] = n;
-    }
-}
-
-/// Returns a number in 32 bits, or `NONE` if it does not fit.
+/// Returns a number in 32 bits, or `u32::MAX` if it does not fit.
 fn short(n: usize) -> u32 {
-    u32::try_from(n).unwrap_or(NONE)
+    u32::try_from(n).unwrap_or(u32::MAX)
 }
 
-/// Returns the number of elements.
-fn count_of(list: &[u32]) -> u32 {
-    short(list.len())
+/// Returns the position of an update, or `NOBODY` if it does not fit.
+pub fn position(i: usize) -> u16 {
+    u16::try_from(i).unwrap_or(NOBODY)
 }
 
-impl Versions {
+impl Draft {
     /// Returns the versions before all updates.
-    fn opening<M: Metric>(
+    pub fn opening<M: Metric>(
         alloc: Global,
         history: &History<M>,
         lists: &[Vec<i64>],
-        room: usize,
-    ) -> Result<Versions, AllocError>
+    ) -> Result<Draft, AllocError>
         requires items { length lists.now ≡ length history.now.schedule.opening }
         requires read { AreRead lists.now }
     {
-        let room = room.saturating_add(history.items() as usize);
-        let mut versions = Versions {
+        let room = history.log().len().saturating_add(history.items() as usize);
+        let mut draft = Draft {
+            versions: Vec::with_capacity(alloc, room)?,
             starts: Vec::new(alloc),
-            owners: Vec::with_capacity(alloc, room)?,
-            earlier: Vec::with_capacity(alloc, room)?,
-            later: Vec::new(alloc),
-            costs: Vec::with_capacity(alloc, room)?,
-            amounts: Vec::new(alloc),
+            cells: Vec::with_capacity(alloc, history.items() as usize)?,
         };
         for x in 0..history.items() {
             let cost = raised_cost(
@@ -104,131 +145,292 @@ impl Versions {
                 ItemId(x),
                 history.opening(ItemId(x)),
             );
-            versions.owners.push(NONE)?;
-            versions.earlier.push(NONE)?;
-            versions.costs.push(cost)?;
+            draft.push_version(NOBODY, NONE, 0)?;
+            draft.cells.push(Cell {
+                place: x,
+                cost,
+                amount: 0,
+            })?;
         }
-        Ok(versions)
+        Ok(draft)
+    }
+
+    fn push_version(&mut self, owner: u16, earlier: u32, below: u64) -> Result<(), AllocError> {
+        self.versions.push(Version {
+            amount: below,
+            link: link_to(earlier),
+            owner,
+            next: NOBODY,
+        })?;
+        Ok(())
+    }
+
+    /// Returns the amounts from an update on.
+    pub fn rest(&self, update: usize) -> &[Version] {
+        let first = match self.starts.get(update) {
+            Some(first) => *first as usize,
+            None => self.versions.len(),
+        };
+        if first <= self.versions.len() {
+            &self.versions[first..]
+        } else {
+            &[]
+        }
+    }
+
+    pub fn start(&self, update: u16) -> u32 {
+        match self.starts.get(update as usize) {
+            Some(place) => *place,
+            None => NONE,
+        }
+    }
+
+    pub fn version(&self, place: u32) -> Version {
+        match self.versions.get(place as usize) {
+            Some(version) => *version,
+            None => Version {
+                amount: 0,
+                link: link_to(NONE),
+                owner: NOBODY,
+                next: NOBODY,
+            },
+        }
+    }
+
+    fn cell(&self, x: ItemId) -> Cell {
+        match self.cells.get(x.0 as usize) {
+            Some(cell) => *cell,
+            None => Cell {
+                place: NONE,
+                cost: 0,
+                amount: 0,
+            },
+        }
+    }
+
+    fn set_version(&mut self, place: u32, version: Version) {
+        let place = place as usize;
+        if place < self.versions.len() {
+            self.versions[place] = version;
+        }
+    }
+
+    fn set_cell(&mut self, x: ItemId, cell: Cell) {
+        let x = x.0 as usize;
+        if x < self.cells.len() {
+            self.cells[x] = cell;
+        }
+    }
+
+    /// Appends a write of an update that begins at a place.
+    fn push_write(
+        &mut self,
+        x: ItemId,
+        cost: u64,
+        update: u16,
+        start: u32,
+        place: u32,
+    ) -> Result<(), AllocError> {
+        let cell = self.cell(x);
+        let before = self.version(cell.place);
+        self.set_cell(
+            x,
+            Cell {
+                place,
+                cost,
+                amount: 0,
+            },
+        );
+        if cell.place < start {
+            self.set_version(cell.place, before.with_next(update));
+            return self.push_version(update, cell.place, cell.cost);
+        }
+        // an earlier write of the same update no longer counts
+        self.set_version(cell.place, before.without_link());
+        self.push_version(update, before.earlier(), before.amount)
     }
 
     /// Appends the accesses of an update.
-    fn push_row<M: Metric>(
+    pub fn push_row<M: Metric>(
         &mut self,
         metric: &M,
         lists: &[Vec<i64>],
-        latest: &mut [u32],
         row: &[Access],
-        update: u32,
+        update: u16,
     ) -> Result<(), AllocError>
         requires read { AreRead lists.now }
         requires row { All (λ a. a.item.0 < length lists.now) row.now }
         requires values { All (λ a. IsValue a.value) row.now }
     {
-        let place = count_of(&self.owners);
-        self.starts.push(place)?;
+        let start = short(self.versions.len());
+        self.starts.push(start)?;
+        let mut place = start;
         for access in row {
-            let place = count_of(&self.owners);
-            let mut earlier = NONE;
-            let mut cost = 0;
             if access.writes {
-                earlier = at32(latest, access.item.0);
-                set32(latest, access.item.0, place);
-                cost = raised_cost(metric, lists, access.item, access.value);
+                let cost = raised_cost(metric, lists, access.item, access.value);
+                self.push_write(access.item, cost, update, start, place)?;
+            } else {
+                self.push_version(update, NONE, 0)?;
             }
-            self.owners.push(update)?;
-            self.earlier.push(earlier)?;
-            self.costs.push(cost)?;
+            place = place.saturating_add(1);
         }
         Ok(())
     }
 
-    /// Links each version to the version that overwrites it, and gives the last versions their costs as amounts.
-    fn close(&mut self, alloc: Global, latest: &[u32]) -> Result<(), AllocError> {
-        let count = count_of(&self.owners);
-        self.starts.push(count)?;
-        self.later = vec![in alloc; NONE; self.owners.len()]?;
-        self.amounts = vec![in alloc; 0u64; self.owners.len()]?;
-        for place in 0..count {
-            let earlier = at32(&self.earlier, place);
-            if earlier != NONE {
-                set32(&mut self.later, earlier, place);
-            }
-        }
-        for place in latest {
-            set64(&mut self.amounts, *place, at64(&self.costs, *place));
+    /// Gives the last versions their costs as amounts.
+    pub fn close(&mut self) -> Result<(), AllocError> {
+        let end = short(self.versions.len());
+        self.starts.push(end)?;
+        for x in 0..self.cells.len() {
+            let cell = self.cells[x];
+            self.cells[x] = Cell {
+                place: cell.place,
+                cost: cell.cost,
+                amount: cell.cost,
+            };
         }
         Ok(())
     }
 
-    fn room(&self, v: u32) -> u64 {
-        at64(&self.costs, v).saturating_sub(at64(&self.amounts, v))
-    }
-
-    fn owner(&self, v: u32) -> u32 {
-        at32(&self.owners, v)
-    }
-
-    fn add(&mut self, v: u32, more: u64) {
-        let sum = at64(&self.amounts, v).saturating_add(more);
-        set64(&mut self.amounts, v, sum);
-    }
-
-    fn take(&mut self, v: u32, less: u64) {
-        let rest = at64(&self.amounts, v).saturating_sub(less);
-        set64(&mut self.amounts, v, rest);
-    }
-
-    /// Returns the sum of the amounts that an update leaves, the sum of the costs that it overwrites, and the number of
-    /// versions that it overwrites.
-    fn due_and_cost(&self, update: u32) -> (u64, u64, u64) {
-        let mut due = 0u64;
-        let mut cost = 0u64;
-        let mut count = 0u64;
-        for place in at32(&self.starts, update)..at32(&self.starts, update.saturating_add(1)) {
-            let earlier = at32(&self.earlier, place);
-            if earlier != NONE {
-                due = due.saturating_add(at64(&self.amounts, place));
-                cost = cost.saturating_add(at64(&self.costs, earlier));
-                count = count.saturating_add(1);
-            }
+    /// Stores the amounts of the versions that are current where the sweep ended.
+    pub fn settle(&mut self) {
+        for x in 0..short(self.cells.len()) {
+            let cell = self.cell(ItemId(x));
+            let version = self.version(cell.place);
+            self.set_version(cell.place, version.with_amount(cell.amount, false));
         }
-        (due, cost, count)
+    }
+
+    fn sums(&self, row: &[Access], start: u32) -> Sums {
+        let mut sums = Sums {
+            due: 0,
+            cost: 0,
+            count: 0,
+        };
+        let mut place = start;
+        for access in row {
+            let version = self.version(place);
+            if version.earlier() != NONE {
+                sums = Sums {
+                    due: sums.due.saturating_add(self.cell(access.item).amount),
+                    cost: sums.cost.saturating_add(version.amount),
+                    count: sums.count.saturating_add(1),
+                };
+            }
+            place = place.saturating_add(1);
+        }
+        sums
+    }
+
+    /// Passes a version that an update leaves: stores its amount, and gives an amount to the version that it overwrites.
+    fn pass_back(&mut self, x: ItemId, place: u32, version: Version, amount: u64) {
+        let cell = self.cell(x);
+        self.set_version(
+            place,
+            version.with_amount(cell.amount, cell.amount < cell.cost),
+        );
+        self.set_cell(
+            x,
+            Cell {
+                place: version.earlier(),
+                cost: version.amount,
+                amount,
+            },
+        );
     }
 
     /// Gives the versions that an update overwrites their costs as amounts.
-    fn fill(&mut self, update: u32) {
-        for place in at32(&self.starts, update)..at32(&self.starts, update.saturating_add(1)) {
-            let earlier = at32(&self.earlier, place);
-            if earlier != NONE {
-                let cost = at64(&self.costs, earlier);
-                set64(&mut self.amounts, earlier, cost);
+    fn fill(&mut self, row: &[Access], start: u32) {
+        let mut place = start;
+        for access in row {
+            let version = self.version(place);
+            if version.earlier() != NONE {
+                self.pass_back(access.item, place, version, version.amount);
             }
+            place = place.saturating_add(1);
         }
     }
 
     /// Distributes an amount over the versions that an update overwrites, in a ratio of their costs in units of 2^-31.
-    fn share(&mut self, update: u32, due: u64, ratio: u64) {
+    fn share(&mut self, row: &[Access], start: u32, due: u64, ratio: u64) {
         let mut left = due;
-        for place in at32(&self.starts, update)..at32(&self.starts, update.saturating_add(1)) {
-            let earlier = at32(&self.earlier, place);
-            if earlier != NONE {
-                let cost = at64(&self.costs, earlier).saturating_sub(OFFSET);
-                let part = part_of(cost, ratio).min(left);
-                set64(&mut self.amounts, earlier, part.saturating_add(OFFSET));
+        let mut place = start;
+        for access in row {
+            let version = self.version(place);
+            if version.earlier() != NONE {
+                let part = part_of(version.amount.saturating_sub(OFFSET), ratio).min(left);
+                self.pass_back(access.item, place, version, part.saturating_add(OFFSET));
                 left = left.saturating_sub(part);
             }
+            place = place.saturating_add(1);
         }
-        for place in at32(&self.starts, update)..at32(&self.starts, update.saturating_add(1)) {
+        self.share_rest(row, start, left);
+    }
+
+    /// Distributes what the ratio has rounded off.
+    fn share_rest(&mut self, row: &[Access], start: u32, rest: u64) {
+        let mut left = rest;
+        let mut place = start;
+        for access in row {
             if left == 0 {
                 return;
             }
-            let earlier = at32(&self.earlier, place);
-            if earlier != NONE {
-                let part = self.room(earlier).min(left);
-                self.add(earlier, part);
+            if self.version(place).earlier() != NONE {
+                let part = self.room(access.item).min(left);
+                self.add(access.item, part);
                 left = left.saturating_sub(part);
             }
+            place = place.saturating_add(1);
         }
+    }
+
+    /// Returns how much the current version of an item can take.
+    pub fn room(&self, x: ItemId) -> u64 {
+        let cell = self.cell(x);
+        cell.cost.saturating_sub(cell.amount)
+    }
+
+    pub fn add(&mut self, x: ItemId, more: u64) {
+        let cell = self.cell(x);
+        let amount = cell.amount.saturating_add(more);
+        self.set_cell(
+            x,
+            Cell {
+                place: cell.place,
+                cost: cell.cost,
+                amount,
+            },
+        );
+    }
+
+    /// Takes from the amount of a version that the sweep has passed.
+    pub fn take(&mut self, place: u32, less: u64) {
+        let version = self.version(place);
+        let amount = version.amount.saturating_sub(less);
+        self.set_version(place, version.with_amount(amount, true));
+    }
+
+    /// Adds to the amount of a version that the sweep has passed.
+    pub fn give(&mut self, place: u32, more: u64, cost: u64) {
+        let version = self.version(place);
+        let amount = version.amount.saturating_add(more);
+        self.set_version(place, version.with_amount(amount, amount < cost));
+    }
+
+    /// Passes an update back: moves the amounts of the versions that it leaves to those that it overwrites. Returns what these
+    /// cannot take.
+    pub fn step_back(&mut self, row: &[Access], update: u16) -> u64 {
+        let start = self.start(update);
+        let sums = self.sums(row, start);
+        if sums.cost <= sums.due {
+            self.fill(row, start);
+            return sums.due.saturating_sub(sums.cost);
+        }
+        let nothing = sums.count.saturating_mul(OFFSET);
+        let due = sums.due.saturating_sub(nothing);
+        let ratio = ratio_of(due, sums.cost.saturating_sub(nothing));
+        self.share(row, start, due, ratio);
+        0
     }
 }
 
@@ -251,236 +453,4 @@ fn part_of(weight: u64, ratio: u64) -> u64 {
     } else {
         (weight >> 31).saturating_mul(ratio)
     }
-}
-
-/// How a search reached an update: a version that it overwrites gets less, or a version that it leaves gets more.
-#[derive(Clone, Copy, PartialEq, Eq)]
-enum Way {
-    Less(u32),
-    More(u32),
-}
-
-/// The state of a search at an update.
-#[derive(Clone, Copy)]
-struct Sight {
-    round: u32,
-    way: Way,
-    /// The update from which the search reached it.
-    from: u32,
-    is_dead: bool,
-}
-
-#[derive(Drop)]
-struct Searches {
-    looks: u64,
-    round: u32,
-    seen: Vec<u32>,
-    sights: Vec<Sight>,
-}
-
-impl Searches {
-    fn none(alloc: Global, updates: usize) -> Result<Searches, AllocError> {
-        let unseen = Sight {
-            round: 0,
-            way: Way::Less(0),
-            from: NONE,
-            is_dead: false,
-        };
-        Ok(Searches {
-            looks: MAX_LOOKS.saturating_mul(updates as u64),
-            round: 0,
-            seen: Vec::new(alloc),
-            sights: vec![in alloc; unseen; updates]?,
-        })
-    }
-
-    fn see(&mut self, update: u32, way: Way, from: u32) -> Result<(), AllocError> {
-        let place = update as usize;
-        if place < self.sights.len() {
-            let sight = self.sights[place];
-            if sight.round != self.round && !sight.is_dead {
-                self.sights[place] = Sight {
-                    round: self.round,
-                    way,
-                    from,
-                    is_dead: false,
-                };
-                self.seen.push(update)?;
-            }
-        }
-        Ok(())
-    }
-
-    /// Visits the versions that an update overwrites and leaves. Returns a version of an earlier update that can take more.
-    fn look_from(
-        &mut self,
-        versions: &Versions,
-        update: u32,
-        node: u32,
-    ) -> Result<Option<u32>, AllocError> {
-        for place in at32(&versions.starts, node)..at32(&versions.starts, node.saturating_add(1)) {
-            self.looks = self.looks.saturating_sub(1);
-            let earlier = at32(&versions.earlier, place);
-            if earlier != NONE {
-                if 0 < versions.room(earlier) {
-                    let owner = versions.owner(earlier);
-                    if owner == NONE || owner < update {
-                        return Ok(Some(earlier));
-                    }
-                    self.see(owner, Way::More(earlier), node)?;
-                }
-                let later = at32(&versions.later, place);
-                if later != NONE && 0 < at64(&versions.amounts, place) {
-                    self.see(versions.owner(later), Way::Less(place), node)?;
-                }
-            }
-        }
-        Ok(None)
-    }
-
-    /// Returns a version of an earlier update that can take more, and the update that overwrites it.
-    fn search(
-        &mut self,
-        versions: &Versions,
-        update: u32,
-    ) -> Result<Option<(u32, u32)>, AllocError> {
-        self.round = self.round.saturating_add(1);
-        self.seen.clear();
-        self.see(update, Way::Less(0), NONE)?;
-        for head in 0..self.sights.len() {
-            let Some(node) = self.seen.get(head).copied() else {
-                return Ok(None);
-            };
-            if let Some(version) = self.look_from(versions, update, node)? {
-                return Ok(Some((version, node)));
-            }
-        }
-        Ok(None)
-    }
-
-    fn end_in_vain(&mut self) {
-        for node in &self.seen {
-            let place = *node as usize;
-            if place < self.sights.len() {
-                self.sights[place].is_dead = true;
-            }
-        }
-    }
-
-    fn sight(&self, node: u32) -> Option<Sight> {
-        self.sights.get(node as usize).copied()
-    }
-
-    /// Returns the maximum amount that can move along the path.
-    fn least_room(&self, versions: &Versions, update: u32, node: u32, most: u64) -> u64 {
-        let mut least = most;
-        let mut node = node;
-        for _ in 0..self.sights.len() {
-            if node == update {
-                return least;
-            }
-            let Some(sight) = self.sight(node) else {
-                return 0;
-            };
-            let room = match sight.way {
-                Way::Less(version) => at64(&versions.amounts, version),
-                Way::More(version) => versions.room(version),
-            };
-            least = least.min(room);
-            node = sight.from;
-        }
-        0
-    }
-
-    /// Moves an amount along the path.
-    fn bring(&self, versions: &mut Versions, update: u32, node: u32, amount: u64) {
-        let mut node = node;
-        for _ in 0..self.sights.len() {
-            if node == update {
-                return;
-            }
-            let Some(sight) = self.sight(node) else {
-                return;
-            };
-            match sight.way {
-                Way::Less(version) => versions.take(version, amount),
-                Way::More(version) => versions.add(version, amount),
-            }
-            node = sight.from;
-        }
-    }
-
-    /// Finds versions of earlier updates for an amount that an update has to place.
-    fn supply(&mut self, versions: &mut Versions, update: u32, due: u64) -> Result<(), AllocError> {
-        let mut due = due;
-        for _ in 0..self.looks {
-            if due == 0 || self.looks == 0 {
-                return Ok(());
-            }
-            let Some((version, node)) = self.search(versions, update)? else {
-                self.end_in_vain();
-                return Ok(());
-            };
-            let room = versions.room(version).min(due);
-            let amount = self.least_room(versions, update, node, room);
-            if amount == 0 {
-                return Ok(());
-            }
-            versions.add(version, amount);
-            self.bring(versions, update, node, amount);
-            due = due.saturating_sub(amount);
-        }
-        Ok(())
-    }
-}
-
-/// Goes back along the updates from the last to the position `first`.
-fn sweep(alloc: Global, versions: &mut Versions, count: u32, first: u32) -> Result<(), AllocError> {
-    let mut searches = Searches::none(alloc, count as usize)?;
-    for i in (first..count).rev() {
-        let (due, cost, writes) = versions.due_and_cost(i);
-        if due < cost {
-            let nothing = writes.saturating_mul(OFFSET);
-            let due = due.saturating_sub(nothing);
-            let ratio = ratio_of(due, cost.saturating_sub(nothing));
-            versions.share(i, due, ratio);
-        } else {
-            versions.fill(i);
-            searches.supply(versions, i, due.saturating_sub(cost))?;
-        }
-    }
-    Ok(())
-}
-
-/// Returns an amount for each version: for the opening values by item, then for each access of the updates.
-///
-/// # Errors
-///
-/// An allocation failed.
-pub fn draft<M: Metric>(
-    alloc: Global,
-    history: &History<M>,
-    index: &Index,
-    updates: &[TxnId],
-    first: usize,
-    lists: &[Vec<i64>],
-) -> Result<Vec<u64>, AllocError>
-    requires index { IsWholeIndexOf history.now.schedule.entries index.now }
-    requires items { length lists.now ≡ length history.now.schedule.opening }
-    requires read { AreRead lists.now }
-{
-    let _invariant = history.log(); // brings the invariant into the proof
-    let mut list = Vec::new(alloc);
-    let mut versions = Versions::opening(alloc, history, lists, history.log().len())?;
-    let mut latest = Vec::with_capacity(alloc, history.items() as usize)?;
-    for x in 0..history.items() {
-        latest.push(x)?;
-    }
-    for i in 0..updates.len() {
-        let row = index.accesses_of(history, updates[i], &mut list)?;
-        versions.push_row(history.metric(), lists, &mut latest, row, short(i))?;
-    }
-    versions.close(alloc, &latest)?;
-    sweep(alloc, &mut versions, short(updates.len()), short(first))?;
-    Ok(versions.amounts)
 }

@@ -1,11 +1,12 @@
 //! The state of each item along the updates of a query, and the effect of one update on it.
-ghost use Rattle.std.specs.Prelude.{◌≡◌, ◌≤◌, ◌<◌, ◌&&◌, ◌||◌, ◌+◌, ◌++◌, ◌∷◌, [], ℕ, Bool, List, All, IfOk, IfSome, length, true};
+ghost use Rattle.std.specs.Prelude.{◌≡◌, ◌≤◌, ◌<◌, ◌&&◌, ◌||◌, ◌+◌, ◌++◌, ◌∷◌, [], ℕ, Bool, List, All, IfOk, IfSome, false, length, map, true};
 ghost use Rattle.std.specs.List.{list_any};
 ghost use Rattle.esr_items.specs.Values.{IsValue};
 ghost use Rattle.esr_order.specs.declared.accesses.Access.{Access as AccessValue};
-ghost use Rattle.esr_stream.specs.Passes.{AreStates, IsRowApplied, ItemState as StateValue, amounts_sum, has_slack_at};
+ghost use Rattle.esr_stream.specs.Passes.{AreStates, IsRowApplied, ItemState as StateValue, amounts_sum, as_covered, costs_sum, has_slack_at};
 ghost use Rattle.esr_stream.specs.Reads.{AreRead, raised};
 
+use crate::draft::Version;
 use crate::reads::raised_cost;
 use esr_history::History;
 use esr_items::{ItemId, Metric};
@@ -24,9 +25,9 @@ pub struct ItemState {
 }
 
 /// Returns the amount at a place, 0 past the end.
-fn amount_at(amounts: &[u64], place: usize) -> u64 {
+fn amount_at(amounts: &[Version], place: usize) -> u64 {
     match amounts.get(place) {
-        Some(amount) => *amount,
+        Some(version) => version.amount,
         None => 0,
     }
 }
@@ -40,7 +41,7 @@ pub fn opening_states<M: Metric>(
     alloc: Global,
     history: &History<M>,
     lists: &[Vec<i64>],
-    amounts: &[u64],
+    amounts: &[Version],
 ) -> Result<Vec<ItemState>, AllocError>
     requires items { length lists.now ≡ length history.now.schedule.opening }
     requires read { AreRead lists.now }
@@ -143,7 +144,7 @@ fn apply_row<M: Metric>(
     lists: &[Vec<i64>],
     states: &mut [ItemState],
     row: &[Access],
-    amounts: &[u64],
+    amounts: &[Version],
     marked: bool,
 ) -> Option<bool>
     requires items { length lists.now ≡ length states.old }
@@ -175,7 +176,7 @@ pub fn fits<M: Metric>(
     lists: &[Vec<i64>],
     states: &mut [ItemState],
     row: &[Access],
-    amounts: &[u64],
+    amounts: &[Version],
 ) -> bool
     requires items { length lists.now ≡ length states.old }
     requires read { AreRead lists.now }
@@ -197,7 +198,7 @@ pub fn steps<M: Metric>(
     lists: &[Vec<i64>],
     states: &mut [ItemState],
     row: &[Access],
-    amounts: &[u64],
+    amounts: &[Version],
     marked: bool,
 ) -> bool
     requires items { length lists.now ≡ length states.old }
@@ -213,6 +214,59 @@ pub fn steps<M: Metric>(
         Some(keeps) => keeps,
         None => false,
     }
+}
+
+/// Applies the accesses of an update, if it is marked. Returns `false` if a sum does not fit.
+pub fn fits_if<M: Metric>(
+    metric: &M,
+    lists: &[Vec<i64>],
+    states: &mut [ItemState],
+    row: &[Access],
+    marked: bool,
+) -> bool
+    requires items { length lists.now ≡ length states.old }
+    requires read { AreRead lists.now }
+    requires row { All (λ a. a.item.0 < length states.old) row.now }
+    requires values { All (λ a. IsValue a.value) row.now }
+    ensures len { length states.new ≡ length states.old }
+    ensures member { result ≡ true → marked ≡ true → (before : ℕ) × (after : ℕ)
+        × IsRowApplied (raised (M.distance_by (M.weights metric.now)) lists.now) true row.now states.old states.new before after }
+    ensures other { marked ≡ false → states.new ≡ states.old }
+{
+    if marked {
+        fits(metric, lists, states, row, &[])
+    } else {
+        true
+    }
+}
+
+/// Returns a copy of the states, in which the writers of each item are covered.
+///
+/// # Errors
+///
+/// An allocation failed.
+pub fn covered_copy(alloc: Global, states: &[ItemState]) -> Result<Vec<ItemState>, AllocError>
+    ensures { IfOk result (λ copy. copy.items ≡ map as_covered states.now) }
+{
+    states
+        .iter()
+        .map(|state| ItemState {
+            cost: state.cost,
+            amount: state.amount,
+            covered: true,
+        })
+        .collect(alloc)
+}
+
+/// Returns the sum of the costs, or `None` if it does not fit.
+pub fn costs_of(states: &[ItemState]) -> Option<u64>
+    ensures { IfSome result (λ sum. sum ≡ costs_sum states.now) }
+{
+    let mut sum = 0u64;
+    for state in states {
+        sum = add(sum, state.cost)?;
+    }
+    Some(sum)
 }
 
 /// Returns the sum of the amounts, or `None` if it does not fit.

@@ -1,23 +1,21 @@
 //! The least distance of a query and its smallest set, if the amounts of the draft show them.
-ghost use Rattle.std.specs.Prelude.{◌≡◌, ◌<◌, ◌+◌, ◌*◌, ◌++◌, ◌∷◌, [], ℕ, OnOk, if◌then◌else◌, Bool, List, All, IfOk, IfSome, false, length, map, nat_lt, slice_set, true};
-ghost use Rattle.esr_items.specs.Values.{IsValue, value_at};
-ghost use Rattle.esr_history.specs.Events.{last_value};
-ghost use Rattle.esr_history.specs.Serial.{state};
+ghost use Rattle.std.specs.Prelude.{◌≡◌, ◌≤◌, ◌<◌, ◌+◌, ◌*◌, ◌++◌, ◌∷◌, [], ℕ, OnOk, if◌then◌else◌, Bool, List, IfOk, IfSome, length, map, nat_lt, true};
 ghost use Rattle.esr_history.specs.Queries.{is_committed_query, members, must, updates_committed_before};
 ghost use Rattle.esr_order.specs.Index.{IsWholeIndexOf};
 ghost use Rattle.esr_order.specs.Scans.{accesses_in};
-ghost use Rattle.esr_bound.specs.Amounts.{AreForced, among_marked, mark_at, total};
-ghost use Rattle.esr_stream.specs.Passes.{AreFirst, AreShown, AreStates, IsLeast, amounts_sum, written_in};
+ghost use Rattle.esr_bound.specs.Amounts.{AreForced, among_marked, cost_by, mark_at};
+ghost use Rattle.esr_stream.specs.Passes.{AreFirst, AreShown, AreStates, IsLeast, IsPassed, StayMarked, amounts_sum};
 ghost use Rattle.esr_stream.specs.Reads.{AreRead, list_at, raised, values_of};
 
-use crate::closing::close;
-use crate::draft::draft;
-use crate::items::{ItemState, add, sum_of};
-use crate::pass::{pass, rest_of, start};
-use crate::reads::{OFFSET, raised_cost, values_by_item};
+use crate::closing::{close, is_marked};
+use crate::draft::Draft;
+use crate::items::{ItemState, costs_of, covered_copy, fits_if, sum_of};
+use crate::pass::{pass, start};
+use crate::reads::{OFFSET, values_by_item};
+use crate::search::draft;
 use esr_history::{History, TxnId};
-use esr_items::{ItemId, Metric};
-use esr_order::{Access, Index, count_must, is_committed_query, updates_before};
+use esr_items::Metric;
+use esr_order::{Index, count_must, is_committed_query, updates_before};
 use std::alloc::{AllocError, Global};
 
 /// The least distance of a query from its placements, and the smallest set of updates before a position of that distance.
@@ -28,8 +26,11 @@ pub struct Least {
     pub before: Vec<TxnId>,
 }
 
-/// The maximum number of passes over the updates of a query.
+/// The maximum number of rounds from the middle on.
 const MAX_ROUNDS: usize = 32;
+
+/// The number of updates between the middle of the first round and the begin of the query.
+const MARGIN: usize = 1024;
 
 /// Returns `count` marks, of which the first `first` are set.
 fn first_marks(alloc: Global, count: usize, first: usize) -> Result<Vec<bool>, AllocError>
@@ -53,70 +54,129 @@ fn copy_of(alloc: Global, states: &[ItemState]) -> Result<Vec<ItemState>, AllocE
 }
 
 /// The result of a round.
-#[derive(Clone, Copy)]
+#[derive(Drop)]
 struct RoundEnd {
-    /// Whether no update decreases the sum of the amounts.
-    is_shown: bool,
     /// Whether a predecessor of a marked update was marked.
     has_added: bool,
+    /// The states at the middle, if all updates before it are marked.
+    middle: Vec<ItemState>,
 }
 
-/// Makes one pass over the updates, and marks the predecessors of marked updates.
+/// Makes one pass over the updates from a position on. Returns the states at the middle, if all updates before it are marked,
+/// or `None` if an update decreases the sum of the amounts.
+fn pass_through<M: Metric>(
+    alloc: Global,
+    history: &History<M>,
+    index: &Index,
+    updates: &[TxnId],
+    from: usize,
+    middle: usize,
+    lists: &[Vec<i64>],
+    drafted: &Draft,
+    states: &mut [ItemState],
+    marks: &mut [bool],
+    q: TxnId,
+) -> Result<Option<Vec<ItemState>>, AllocError>
+    requires index { IsWholeIndexOf history.now.schedule.entries index.now }
+    requires items { length lists.now ≡ length history.now.schedule.opening }
+    requires read { AreRead lists.now }
+    requires updates { map (λ t. t.0) updates.now ≡ updates_committed_before history.now.schedule q.0 }
+    requires low { from ≤ middle }
+    requires high { middle ≤ length updates.now }
+    requires states { length states.old ≡ length history.now.schedule.opening }
+    requires marks { length marks.old ≡ length updates.now }
+    ensures len { length marks.new ≡ length marks.old }
+    ensures stay { StayMarked marks.old marks.new }
+    ensures passed { IfOk result (λ found. IfSome found (λ _. (worth : ℕ) (seeds : List Bool)
+        → IsPassed (length history.now.schedule.opening) (raised (M.distance_by history.now.schedule.weights) lists.now)
+        history.now.schedule q.0 worth from seeds marks.old states.old
+        → IsPassed (length history.now.schedule.opening) (raised (M.distance_by history.now.schedule.weights) lists.now)
+        history.now.schedule q.0 worth (length updates.now) seeds marks.new states.new)) }
+    ensures middle { IfOk result (λ found. IfSome found (λ kept. (worth : ℕ) (seeds ms : List Bool)
+        → IsPassed (length history.now.schedule.opening) (raised (M.distance_by history.now.schedule.weights) lists.now)
+        history.now.schedule q.0 worth from seeds marks.old states.old
+        → AreFirst middle ms
+        → AreStates (raised (M.distance_by history.now.schedule.weights) lists.now) history.now.schedule q.0 middle ms
+        kept.items)) }
+{
+    let low = pass(
+        alloc, history, index, updates, from, middle, lists, drafted, states, marks, q,
+    )?;
+    if !low {
+        return Ok(None);
+    }
+    let kept = covered_copy(alloc, states)?;
+    let count = updates.len();
+    let high = pass(
+        alloc, history, index, updates, middle, count, lists, drafted, states, marks, q,
+    )?;
+    if !high {
+        return Ok(None);
+    }
+    Ok(Some(kept))
+}
+
+/// Makes one pass over the updates from a position on, and marks the predecessors of marked updates. Returns `None` if an
+/// update decreases the sum of the amounts.
 fn round<M: Metric>(
     alloc: Global,
     history: &History<M>,
     index: &Index,
     updates: &[TxnId],
-    first: usize,
+    from: usize,
+    middle: usize,
     lists: &[Vec<i64>],
-    amounts: &[u64],
+    drafted: &Draft,
     begin: &[ItemState],
     marks: &mut [bool],
     q: TxnId,
-) -> Result<RoundEnd, AllocError>
+) -> Result<Option<RoundEnd>, AllocError>
     requires index { IsWholeIndexOf history.now.schedule.entries index.now }
     requires items { length lists.now ≡ length history.now.schedule.opening }
     requires read { AreRead lists.now }
     requires updates { map (λ t. t.0) updates.now ≡ updates_committed_before history.now.schedule q.0 }
-    requires first { first ≡ length (must history.now.schedule q.0) }
+    requires first { length (must history.now.schedule q.0) ≤ from }
+    requires low { from ≤ middle }
+    requires high { middle ≤ length updates.now }
     requires marks { length marks.old ≡ length updates.now }
-    requires musts { AreFirst first marks.old }
-    requires begin { (ms : List Bool) → AreFirst first ms
-        → AreStates (raised (M.distance_by history.now.schedule.weights) lists.now) history.now.schedule q.0 first ms
+    requires musts { AreFirst from marks.old }
+    requires begin { (ms : List Bool) → AreFirst from ms
+        → AreStates (raised (M.distance_by history.now.schedule.weights) lists.now) history.now.schedule q.0 from ms
         begin.now }
     ensures len { length marks.new ≡ length marks.old }
-    ensures musts { AreFirst first marks.new }
-    ensures shown { IfOk result (λ end. end.is_shown ≡ true
+    ensures stay { StayMarked marks.old marks.new }
+    ensures shown { IfOk result (λ found. IfSome found (λ _. (worth : ℕ) → worth ≤ amounts_sum begin.now
         → AreForced (length history.now.schedule.opening) (raised (M.distance_by history.now.schedule.weights) lists.now)
-        history.now.schedule q.0 (amounts_sum begin.now) marks.old
+        history.now.schedule q.0 worth marks.old
         → AreShown (length history.now.schedule.opening) (raised (M.distance_by history.now.schedule.weights) lists.now)
-        history.now.schedule q.0 (amounts_sum begin.now) marks.new) }
+        history.now.schedule q.0 worth marks.new)) }
+    ensures middle { IfOk result (λ found. IfSome found (λ end. (ms : List Bool) → AreFirst middle ms
+        → AreStates (raised (M.distance_by history.now.schedule.weights) lists.now) history.now.schedule q.0 middle ms
+        end.middle.items)) }
 {
     let _invariant = history.log(); // brings the invariant into the proof
     let mut states = copy_of(alloc, begin)?;
-    let whole = pass(
+    let found = pass_through(
         alloc,
         history,
         index,
         updates,
-        first,
+        from,
+        middle,
         lists,
-        amounts,
+        drafted,
         &mut states,
         marks,
         q,
     )?;
-    if !whole {
-        return Ok(RoundEnd {
-            is_shown: false,
-            has_added: false,
-        });
-    }
-    let has_added = close(alloc, history, index, updates, marks, q)?;
-    Ok(RoundEnd {
-        is_shown: true,
+    let Some(kept) = found else {
+        return Ok(None);
+    };
+    let has_added = close(alloc, history, index, updates, from, marks, q)?;
+    Ok(Some(RoundEnd {
         has_added,
-    })
+        middle: kept,
+    }))
 }
 
 /// Marks the smallest set of least cost, if the amounts show it. Returns whether the marks are shown.
@@ -125,10 +185,12 @@ fn mark_least<M: Metric>(
     history: &History<M>,
     index: &Index,
     updates: &[TxnId],
-    first: usize,
+    from: usize,
     lists: &[Vec<i64>],
-    amounts: &[u64],
+    drafted: &Draft,
     begin: &[ItemState],
+    worth: u64,
+    is_open: bool,
     marks: &mut [bool],
     q: TxnId,
 ) -> Result<bool, AllocError>
@@ -136,82 +198,42 @@ fn mark_least<M: Metric>(
     requires items { length lists.now ≡ length history.now.schedule.opening }
     requires read { AreRead lists.now }
     requires updates { map (λ t. t.0) updates.now ≡ updates_committed_before history.now.schedule q.0 }
-    requires first { first ≡ length (must history.now.schedule q.0) }
+    requires first { length (must history.now.schedule q.0) ≤ from }
+    requires from { from ≤ length updates.now }
     requires marks { length marks.old ≡ length updates.now }
-    requires musts { AreFirst first marks.old }
-    requires only { (i : ℕ) → i < length marks.old → mark_at marks.old i ≡ nat_lt i first }
-    requires begin { (ms : List Bool) → AreFirst first ms
-        → AreStates (raised (M.distance_by history.now.schedule.weights) lists.now) history.now.schedule q.0 first ms
+    requires musts { AreFirst from marks.old }
+    requires begin { (ms : List Bool) → AreFirst from ms
+        → AreStates (raised (M.distance_by history.now.schedule.weights) lists.now) history.now.schedule q.0 from ms
         begin.now }
+    requires shown { AreShown (length history.now.schedule.opening)
+        (raised (M.distance_by history.now.schedule.weights) lists.now) history.now.schedule q.0 worth marks.old }
     ensures len { length marks.new ≡ length marks.old }
+    ensures musts { AreFirst from marks.new }
     ensures shown { IfOk result (λ is. is ≡ true
         → AreShown (length history.now.schedule.opening) (raised (M.distance_by history.now.schedule.weights) lists.now)
-        history.now.schedule q.0 (amounts_sum begin.now) marks.new) }
+        history.now.schedule q.0 worth marks.new) }
 {
     let _invariant = history.log(); // brings the invariant into the proof
+    let mut is_open = is_open;
+    let Some(sum) = sum_of(begin) else {
+        return Ok(false);
+    };
+    if sum < worth {
+        return Ok(false);
+    }
     for _round in 0..MAX_ROUNDS {
-        let end = round(
-            alloc, history, index, updates, first, lists, amounts, begin, marks, q,
-        )?;
-        let is_shown = end.is_shown;
-        if !is_shown {
-            return Ok(false);
-        }
-        if !end.has_added {
+        if !is_open {
             return Ok(true);
         }
+        let found = round(
+            alloc, history, index, updates, from, from, lists, drafted, begin, marks, q,
+        )?;
+        let Some(end) = found else {
+            return Ok(false);
+        };
+        is_open = end.has_added;
     }
     Ok(false)
-}
-
-/// Returns the values of the items before all updates.
-fn opening_copy<M: Metric>(alloc: Global, history: &History<M>) -> Result<Vec<i64>, AllocError>
-    ensures { IfOk result (λ values. values.items ≡ history.now.schedule.opening) }
-{
-    let opening = history.opening_values();
-    let mut values = Vec::with_capacity(alloc, opening.len())?;
-    values.extend_from_slice(opening)?;
-    Ok(values)
-}
-
-/// Writes the value of an access, if it is a write.
-fn write_one(values: &mut [i64], access: Access)
-    requires item { access.item.0 < length values.old }
-    ensures write { access.writes ≡ true → values.new ≡ slice_set values.old access.item.0 access.value }
-    ensures read { access.writes ≡ false → values.new ≡ values.old }
-{
-    if access.writes {
-        values[access.item.0 as usize] = access.value;
-    }
-}
-
-/// Writes the values of an update.
-fn write_row(values: &mut [i64], row: &[Access])
-    requires items { All (λ a. a.item.0 < length values.old) row.now }
-    requires range { All (λ a. IsValue a.value) row.now }
-    ensures len { length values.new ≡ length values.old }
-    ensures values { (x : ℕ) → x < length values.old
-        → value_at values.new x ≡ last_value (value_at values.old x) (written_in x row.now) }
-    ensures range { All IsValue values.old → All IsValue values.new }
-{
-    for access in row {
-        write_one(values, *access);
-    }
-}
-
-/// Writes the values of an update, if it is marked.
-fn write_if(values: &mut [i64], row: &[Access], marked: bool)
-    requires items { All (λ a. a.item.0 < length values.old) row.now }
-    requires range { All (λ a. IsValue a.value) row.now }
-    ensures len { length values.new ≡ length values.old }
-    ensures member { marked ≡ true → (x : ℕ) → x < length values.old
-        → value_at values.new x ≡ last_value (value_at values.old x) (written_in x row.now) }
-    ensures other { marked ≡ false → values.new ≡ values.old }
-    ensures range { All IsValue values.old → All IsValue values.new }
-{
-    if marked {
-        write_row(values, row);
-    }
 }
 
 /// Appends a transaction, if it is marked.
@@ -224,60 +246,66 @@ fn push_if(txns: &mut Vec<TxnId>, t: TxnId, marked: bool) -> Result<(), AllocErr
     Ok(())
 }
 
-/// The marked updates, and the values of the items after them.
-#[derive(Drop)]
-struct Members {
-    txns: Vec<TxnId>,
-    values: Vec<i64>,
+/// Lists the marked updates.
+fn members_of<M: Metric>(
+    alloc: Global,
+    history: &History<M>,
+    updates: &[TxnId],
+    marks: &[bool],
+    q: TxnId,
+) -> Result<Vec<TxnId>, AllocError>
+    requires updates { map (λ t. t.0) updates.now ≡ updates_committed_before history.now.schedule q.0 }
+    requires marks { length marks.now ≡ length updates.now }
+    ensures { IfOk result (λ v. map (λ t. t.0) v.items
+        ≡ members history.now.schedule q.0 (among_marked (updates_committed_before history.now.schedule q.0) marks.now)) }
+{
+    let _invariant = history.log(); // brings the invariant into the proof
+    let mut txns = Vec::with_capacity(alloc, updates.len())?;
+    for i in 0..updates.len() {
+        push_if(&mut txns, updates[i], marks[i])?;
+    }
+    Ok(txns)
 }
 
-/// Lists the marked updates, and runs them from the opening values.
-fn members_of<M: Metric>(
+/// Returns the total cost of the versions that the marked updates leave, with the offset of each item, or `None` if a sum does
+/// not fit. All updates before the position `from` are marked, and the states are those after them.
+fn cost_of<M: Metric>(
     alloc: Global,
     history: &History<M>,
     index: &Index,
     updates: &[TxnId],
+    from: usize,
+    lists: &[Vec<i64>],
+    states: &mut [ItemState],
     marks: &[bool],
     q: TxnId,
-) -> Result<Members, AllocError>
+) -> Result<Option<u64>, AllocError>
     requires index { IsWholeIndexOf history.now.schedule.entries index.now }
+    requires items { length lists.now ≡ length history.now.schedule.opening }
+    requires read { AreRead lists.now }
     requires updates { map (λ t. t.0) updates.now ≡ updates_committed_before history.now.schedule q.0 }
+    requires from { from ≤ length updates.now }
     requires marks { length marks.now ≡ length updates.now }
-    ensures txns { IfOk result (λ m. map (λ t. t.0) m.txns.items
-        ≡ members history.now.schedule q.0 (among_marked (updates_committed_before history.now.schedule q.0) marks.now)) }
-    ensures values { IfOk result (λ m. (x : ℕ) → x < length history.now.schedule.opening → value_at m.values.items x
-        ≡ state history.now.schedule (members history.now.schedule q.0
-        (among_marked (updates_committed_before history.now.schedule q.0) marks.now)) x) }
-    ensures len { IfOk result (λ m. length m.values.items ≡ length history.now.schedule.opening) }
-    ensures range { IfOk result (λ m. All IsValue m.values.items) }
+    requires firsts { AreFirst from marks.now }
+    requires states { AreStates (raised (M.distance_by history.now.schedule.weights) lists.now) history.now.schedule q.0 from
+        marks.now states.old }
+    ensures { IfOk result (λ found. IfSome found (λ cost. cost
+        ≡ cost_by (length history.now.schedule.opening) (raised (M.distance_by history.now.schedule.weights) lists.now)
+        history.now.schedule q.0 (among_marked (updates_committed_before history.now.schedule q.0) marks.now))) }
 {
     let _invariant = history.log(); // brings the invariant into the proof
-    let mut values = opening_copy(alloc, history)?;
-    let mut txns = Vec::new(alloc);
     let mut list = Vec::new(alloc);
-    for i in 0..updates.len() {
+    for i in from..updates.len() {
         let row = index.accesses_of(history, updates[i], &mut list)?;
-        write_if(&mut values, row, marks[i]);
-        push_if(&mut txns, updates[i], marks[i])?;
+        let fit = fits_if(history.metric(), lists, states, row, marks[i]);
+        if !fit {
+            return Ok(None);
+        }
     }
-    Ok(Members { txns, values })
-}
-
-/// Returns the total cost of the versions with these values, with the offset of each item, or `None` if it does not fit.
-fn cost_of<M: Metric>(metric: &M, lists: &[Vec<i64>], values: &[i64], items: u32) -> Option<u64>
-    requires items { items ≡ length lists.now }
-    requires values { length values.now ≡ length lists.now }
-    requires read { AreRead lists.now }
-    requires range { All IsValue values.now }
-    ensures { IfSome result (λ sum. sum ≡ total (length lists.now)
-        (λ x. raised (M.distance_by (M.weights metric.now)) lists.now x (value_at values.now x))) }
-{
-    let mut sum = 0u64;
-    for x in 0..items {
-        let cost = raised_cost(metric, lists, ItemId(x), values[x as usize]);
-        sum = add(sum, cost)?;
-    }
-    Some(sum)
+    let Some(cost) = costs_of(states) else {
+        return Ok(None);
+    };
+    Ok(Some(cost))
 }
 
 /// Returns the cost without the offset of each item, or `None` if it is less.
@@ -294,7 +322,9 @@ fn least_from<M: Metric>(
     history: &History<M>,
     index: &Index,
     updates: &[TxnId],
+    from: usize,
     lists: &[Vec<i64>],
+    begin: &[ItemState],
     worth: u64,
     marks: &[bool],
     q: TxnId,
@@ -305,28 +335,266 @@ fn least_from<M: Metric>(
     requires lists { (x : ℕ) → x < length history.now.schedule.opening → list_at lists.now x
         ≡ values_of (accesses_in history.now.schedule.entries q.0) x }
     requires updates { map (λ t. t.0) updates.now ≡ updates_committed_before history.now.schedule q.0 }
+    requires from { from ≤ length updates.now }
     requires marks { length marks.now ≡ length updates.now }
+    requires firsts { AreFirst from marks.now }
+    requires begin { (ms : List Bool) → AreFirst from ms
+        → AreStates (raised (M.distance_by history.now.schedule.weights) lists.now) history.now.schedule q.0 from ms
+        begin.now }
     requires shown { AreShown (length history.now.schedule.opening)
         (raised (M.distance_by history.now.schedule.weights) lists.now) history.now.schedule q.0 worth marks.now }
     ensures { IfOk result (λ found. IfSome found (λ l. IsLeast M.distance_by history.now.schedule q.0 l.distance
         (map (λ t. t.0) l.before.items))) }
 {
     let _invariant = history.log(); // brings the invariant into the proof
-    let members = members_of(alloc, history, index, updates, marks, q)?;
-    let items = history.items();
-    let Some(cost) = cost_of(history.metric(), lists, &members.values, items) else {
+    let mut states = copy_of(alloc, begin)?;
+    let found = cost_of(
+        alloc,
+        history,
+        index,
+        updates,
+        from,
+        lists,
+        &mut states,
+        marks,
+        q,
+    )?;
+    let Some(cost) = found else {
         return Ok(None);
     };
     if cost != worth {
         return Ok(None);
     }
-    let Some(distance) = without_offsets(worth, items) else {
+    let Some(distance) = without_offsets(worth, history.items()) else {
         return Ok(None);
     };
-    Ok(Some(Least {
-        distance,
-        before: members.txns,
-    }))
+    let before = members_of(alloc, history, updates, marks, q)?;
+    Ok(Some(Least { distance, before }))
+}
+
+/// Returns the least distance of a query from the states at a position before which all updates are marked.
+fn find_from<M: Metric>(
+    alloc: Global,
+    history: &History<M>,
+    index: &Index,
+    updates: &[TxnId],
+    from: usize,
+    lists: &[Vec<i64>],
+    drafted: &Draft,
+    begin: &[ItemState],
+    worth: u64,
+    is_open: bool,
+    marks: &mut [bool],
+    q: TxnId,
+) -> Result<Option<Least>, AllocError>
+    requires index { IsWholeIndexOf history.now.schedule.entries index.now }
+    requires query { is_committed_query history.now.schedule q.0 ≡ true }
+    requires items { length lists.now ≡ length history.now.schedule.opening }
+    requires read { AreRead lists.now }
+    requires lists { (x : ℕ) → x < length history.now.schedule.opening → list_at lists.now x
+        ≡ values_of (accesses_in history.now.schedule.entries q.0) x }
+    requires updates { map (λ t. t.0) updates.now ≡ updates_committed_before history.now.schedule q.0 }
+    requires first { length (must history.now.schedule q.0) ≤ from }
+    requires from { from ≤ length updates.now }
+    requires marks { length marks.old ≡ length updates.now }
+    requires musts { AreFirst from marks.old }
+    requires begin { (ms : List Bool) → AreFirst from ms
+        → AreStates (raised (M.distance_by history.now.schedule.weights) lists.now) history.now.schedule q.0 from ms
+        begin.now }
+    requires shown { AreShown (length history.now.schedule.opening)
+        (raised (M.distance_by history.now.schedule.weights) lists.now) history.now.schedule q.0 worth marks.old }
+    ensures { IfOk result (λ found. IfSome found (λ l. IsLeast M.distance_by history.now.schedule q.0 l.distance
+        (map (λ t. t.0) l.before.items))) }
+{
+    let is_shown = mark_least(
+        alloc, history, index, updates, from, lists, drafted, begin, worth, is_open, marks, q,
+    )?;
+    if !is_shown {
+        return Ok(None);
+    }
+    least_from(
+        alloc, history, index, updates, from, lists, begin, worth, marks, q,
+    )
+}
+
+/// Returns the index at which a transaction began. No contract constrains it.
+fn begin_of<M: Metric>(history: &History<M>, q: TxnId) -> u64 {
+    let mut begin = 0;
+    let mut next = history.last_of_txn(q);
+    for _ in 0..history.log().len() {
+        let Some(i) = next else {
+            return begin;
+        };
+        begin = i;
+        next = history.earlier_of_txn(i);
+    }
+    begin
+}
+
+/// Returns whether a transaction ended before an index. No contract constrains it.
+fn has_ended<M: Metric>(history: &History<M>, t: TxnId, place: u64) -> bool {
+    match history.facts(t) {
+        None => true,
+        Some(facts) => facts.end.is_some_and(|end| end < place),
+    }
+}
+
+/// Returns a position that is `MARGIN` before the first update that ended after the query began, at least `first`. Usually all
+/// updates before it are in the smallest set.
+fn middle_of<M: Metric>(history: &History<M>, updates: &[TxnId], first: usize, q: TxnId) -> usize
+    requires first { first ≤ length updates.now }
+    ensures low { first ≤ result }
+    ensures high { result ≤ length updates.now }
+{
+    let begin = begin_of(history, q);
+    for i in (first..updates.len()).rev() {
+        if has_ended(history, updates[i], begin) {
+            return i.saturating_sub(MARGIN).max(first);
+        }
+    }
+    first
+}
+
+/// Returns how many of the first updates are marked, at least `first`.
+fn count_first(marks: &[bool], first: usize) -> usize
+    requires within { first ≤ length marks.now }
+    requires first { AreFirst first marks.now }
+    ensures low { first ≤ result }
+    ensures high { result ≤ length marks.now }
+    ensures first { AreFirst result marks.now }
+{
+    for i in first..marks.len() {
+        if !is_marked(marks, i) {
+            return i;
+        }
+    }
+    marks.len()
+}
+
+/// Returns whether the first updates are marked.
+fn are_first(marks: &[bool], count: usize) -> bool
+    ensures { result ≡ true → AreFirst count marks.now }
+{
+    for i in 0..count {
+        if !is_marked(marks, i) {
+            return false;
+        }
+    }
+    true
+}
+
+/// Continues after a round that began at the position `first`: one more round from there, and then from the first update that is
+/// not marked.
+fn find_again<M: Metric>(
+    alloc: Global,
+    history: &History<M>,
+    index: &Index,
+    updates: &[TxnId],
+    first: usize,
+    lists: &[Vec<i64>],
+    drafted: &Draft,
+    begin: &[ItemState],
+    worth: u64,
+    is_open: bool,
+    marks: &mut [bool],
+    q: TxnId,
+) -> Result<Option<Least>, AllocError>
+    requires index { IsWholeIndexOf history.now.schedule.entries index.now }
+    requires query { is_committed_query history.now.schedule q.0 ≡ true }
+    requires items { length lists.now ≡ length history.now.schedule.opening }
+    requires read { AreRead lists.now }
+    requires lists { (x : ℕ) → x < length history.now.schedule.opening → list_at lists.now x
+        ≡ values_of (accesses_in history.now.schedule.entries q.0) x }
+    requires updates { map (λ t. t.0) updates.now ≡ updates_committed_before history.now.schedule q.0 }
+    requires first { length (must history.now.schedule q.0) ≤ first }
+    requires within { first ≤ length updates.now }
+    requires marks { length marks.old ≡ length updates.now }
+    requires musts { AreFirst first marks.old }
+    requires begin { (ms : List Bool) → AreFirst first ms
+        → AreStates (raised (M.distance_by history.now.schedule.weights) lists.now) history.now.schedule q.0 first ms
+        begin.now }
+    requires worth { worth ≡ amounts_sum begin.now }
+    requires shown { AreShown (length history.now.schedule.opening)
+        (raised (M.distance_by history.now.schedule.weights) lists.now) history.now.schedule q.0 worth marks.old }
+    ensures { IfOk result (λ found. IfSome found (λ l. IsLeast M.distance_by history.now.schedule q.0 l.distance
+        (map (λ t. t.0) l.before.items))) }
+{
+    if !is_open {
+        return find_from(
+            alloc, history, index, updates, first, lists, drafted, begin, worth, false, marks, q,
+        );
+    }
+    let middle = count_first(marks, first);
+    let found = round(
+        alloc, history, index, updates, first, middle, lists, drafted, begin, marks, q,
+    )?;
+    let Some(end) = found else {
+        return Ok(None);
+    };
+    let RoundEnd {
+        has_added,
+        middle: states,
+    } = end;
+    find_from(
+        alloc, history, index, updates, middle, lists, drafted, &states, worth, has_added, marks, q,
+    )
+}
+
+/// Returns the least distance of a query from the states after the updates that it must see, if the amounts show it. Later
+/// rounds start in the middle if all updates before it are marked.
+fn find_drafted<M: Metric>(
+    alloc: Global,
+    history: &History<M>,
+    index: &Index,
+    updates: &[TxnId],
+    first: usize,
+    lists: &[Vec<i64>],
+    drafted: &Draft,
+    begin: &[ItemState],
+    marks: &mut [bool],
+    q: TxnId,
+) -> Result<Option<Least>, AllocError>
+    requires index { IsWholeIndexOf history.now.schedule.entries index.now }
+    requires query { is_committed_query history.now.schedule q.0 ≡ true }
+    requires items { length lists.now ≡ length history.now.schedule.opening }
+    requires read { AreRead lists.now }
+    requires lists { (x : ℕ) → x < length history.now.schedule.opening → list_at lists.now x
+        ≡ values_of (accesses_in history.now.schedule.entries q.0) x }
+    requires updates { map (λ t. t.0) updates.now ≡ updates_committed_before history.now.schedule q.0 }
+    requires first { first ≡ length (must history.now.schedule q.0) }
+    requires marks { length marks.old ≡ length updates.now }
+    requires musts { AreFirst first marks.old }
+    requires only { (i : ℕ) → i < length marks.old → mark_at marks.old i ≡ nat_lt i first }
+    requires begin { (ms : List Bool) → AreFirst first ms
+        → AreStates (raised (M.distance_by history.now.schedule.weights) lists.now) history.now.schedule q.0 first ms
+        begin.now }
+    ensures { IfOk result (λ found. IfSome found (λ l. IsLeast M.distance_by history.now.schedule q.0 l.distance
+        (map (λ t. t.0) l.before.items))) }
+{
+    let _invariant = history.log(); // brings the invariant into the proof
+    let Some(worth) = sum_of(begin) else {
+        return Ok(None);
+    };
+    let middle = middle_of(history, updates, first, q);
+    let found = round(
+        alloc, history, index, updates, first, middle, lists, drafted, begin, marks, q,
+    )?;
+    let Some(end) = found else {
+        return Ok(None);
+    };
+    let RoundEnd {
+        has_added,
+        middle: states,
+    } = end;
+    if are_first(marks, middle) {
+        return find_from(
+            alloc, history, index, updates, middle, lists, drafted, &states, worth, has_added,
+            marks, q,
+        );
+    }
+    find_again(
+        alloc, history, index, updates, first, lists, drafted, begin, worth, has_added, marks, q,
+    )
 }
 
 /// Returns the least distance of a committed query, if the amounts of the draft show it.
@@ -349,31 +617,15 @@ fn find<M: Metric>(
 {
     let _invariant = history.log(); // brings the invariant into the proof
     let first = count_must(alloc, history, updates, q)?;
-    let amounts = draft(alloc, history, index, updates, first, lists)?;
-    let Some(begin) = start(alloc, history, index, updates, first, lists, &amounts, q)? else {
-        return Ok(None);
-    };
-    let Some(worth) = sum_of(&begin.states) else {
+    let drafted = draft(alloc, history, index, updates, first, lists)?;
+    let begun = start(alloc, history, index, updates, first, lists, &drafted, q)?;
+    let Some(begin) = begun else {
         return Ok(None);
     };
     let mut marks = first_marks(alloc, updates.len(), first)?;
-    let rest = rest_of(&amounts, begin.place);
-    let is_shown = mark_least(
-        alloc,
-        history,
-        index,
-        updates,
-        first,
-        lists,
-        rest,
-        &begin.states,
-        &mut marks,
-        q,
-    )?;
-    if !is_shown {
-        return Ok(None);
-    }
-    least_from(alloc, history, index, updates, lists, worth, &marks, q)
+    find_drafted(
+        alloc, history, index, updates, first, lists, &drafted, &begin, &mut marks, q,
+    )
 }
 
 /// Returns the least distance of a query and its smallest set, or `None` if the transaction is not a committed query or the

@@ -9,9 +9,11 @@
 //! A pass applies the updates in commit order and keeps the sum of the capped amounts of the current versions. Let S be this
 //! sum directly after the mandatory updates. If a later update decreases the sum, the pass fails. Otherwise every closed set
 //! costs at least S (`esr_bound`). The pass also marks updates that every set of least cost contains, and `close` adds their
-//! predecessors. If `close` adds an update, a pass with the larger set follows. After 32 passes (`MAX_ROUNDS`) the search ends
-//! without a result. When `close` adds none and the cost of the marked set equals S, the marked set is the result. In each
-//! other case `least_of` returns `None`, and the caller solves the closure problem of the query (`esr_audit`).
+//! predecessors. If `close` adds an update, a pass with the larger set follows. It need not visit all updates again: if all
+//! updates before a position are marked, they are in every set of least cost, like mandatory ones. So the pass starts from the
+//! states at that position, provided that their amounts sum to at least S. After 34 passes (`MAX_ROUNDS` and the first two) the
+//! search ends without a result. When `close` adds none and the cost of the marked set equals S, the marked set is the result.
+//! In each other case `least_of` returns `None`, and the caller solves the closure problem of the query (`esr_audit`).
 //!
 //! The proof covers the pass and not the proposed amounts, so `draft` can change without a new theorem. Costs are never
 //! negative, but amounts can be. So costs and amounts are stored as unsigned integers with `OFFSET` added. Rejected design: a
@@ -25,5 +27,6 @@ mod items;
 mod least;
 mod pass;
 mod reads;
+mod search;
 
 pub use least::{Least, least_of};

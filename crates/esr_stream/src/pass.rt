@@ -5,18 +5,12 @@ ghost use Rattle.esr_order.specs.Index.{IsWholeIndexOf};
 ghost use Rattle.esr_stream.specs.Passes.{AreFirst, AreStates, IsPassed, StayMarked};
 ghost use Rattle.esr_stream.specs.Reads.{AreRead, raised};
 
+use crate::draft::Draft;
 use crate::items::{ItemState, fits, is_forced, opening_states, steps};
 use esr_history::{History, TxnId};
 use esr_items::Metric;
 use esr_order::Index;
 use std::alloc::{AllocError, Global};
-
-/// The states after the updates that the query must see, and the place of the amounts of the next update.
-#[derive(Drop)]
-pub struct StartStates {
-    pub states: Vec<ItemState>,
-    pub place: usize,
-}
 
 /// Applies the updates that the query must see. Returns `None` if a sum of amounts does not fit.
 ///
@@ -30,9 +24,9 @@ pub fn start<M: Metric>(
     updates: &[TxnId],
     first: usize,
     lists: &[Vec<i64>],
-    amounts: &[u64],
+    drafted: &Draft,
     q: TxnId,
-) -> Result<Option<StartStates>, AllocError>
+) -> Result<Option<Vec<ItemState>>, AllocError>
     requires index { IsWholeIndexOf history.now.schedule.entries index.now }
     requires items { length lists.now ≡ length history.now.schedule.opening }
     requires read { AreRead lists.now }
@@ -40,38 +34,27 @@ pub fn start<M: Metric>(
     requires first { first ≡ length (must history.now.schedule q.0) }
     ensures { IfOk result (λ found. IfSome found (λ s. (marks : List Bool) → AreFirst first marks
         → AreStates (raised (M.distance_by history.now.schedule.weights) lists.now) history.now.schedule q.0 first marks
-        s.states.items)) }
+        s.items)) }
 {
     let _invariant = history.log(); // brings the invariant into the proof
-    let mut states = opening_states(alloc, history, lists, amounts)?;
+    let mut states = opening_states(alloc, history, lists, &drafted.versions)?;
     let mut list = Vec::new(alloc);
-    let mut place = history.items() as usize;
     if updates.len() < first {
         return Ok(None);
     }
     for i in 0..first {
         let row = index.accesses_of(history, updates[i], &mut list)?;
-        let own = rest_of(amounts, place);
+        let own = drafted.rest(i);
         let fit = fits(history.metric(), lists, &mut states, row, own);
         if !fit {
             return Ok(None);
         }
-        place = place.saturating_add(row.len());
     }
-    Ok(Some(StartStates { states, place }))
+    Ok(Some(states))
 }
 
-/// Returns the amounts from a place on.
-pub fn rest_of(amounts: &[u64], place: usize) -> &[u64] {
-    if place <= amounts.len() {
-        &amounts[place..]
-    } else {
-        &[]
-    }
-}
-
-/// Applies the updates from position `first` on, and marks each one that overwrites a version with slack. Returns `false`
-/// if an update decreases the sum of the amounts.
+/// Applies the updates between two positions, and marks each one that overwrites a version with slack. Returns `false` if an
+/// update decreases the sum of the amounts.
 ///
 /// # Errors
 ///
@@ -81,9 +64,10 @@ pub fn pass<M: Metric>(
     history: &History<M>,
     index: &Index,
     updates: &[TxnId],
-    first: usize,
+    from: usize,
+    to: usize,
     lists: &[Vec<i64>],
-    amounts: &[u64],
+    drafted: &Draft,
     states: &mut [ItemState],
     marks: &mut [bool],
     q: TxnId,
@@ -92,30 +76,30 @@ pub fn pass<M: Metric>(
     requires items { length lists.now ≡ length history.now.schedule.opening }
     requires read { AreRead lists.now }
     requires updates { map (λ t. t.0) updates.now ≡ updates_committed_before history.now.schedule q.0 }
-    requires first { first ≤ length updates.now }
+    requires from { from ≤ to }
+    requires to { to ≤ length updates.now }
     requires states { length states.old ≡ length history.now.schedule.opening }
     requires marks { length marks.old ≡ length updates.now }
+    ensures states_len { length states.new ≡ length states.old }
     ensures len { length marks.new ≡ length marks.old }
     ensures stay { StayMarked marks.old marks.new }
-    ensures passed { IfOk result (λ whole. whole ≡ true → (worth : ℕ)
+    ensures passed { IfOk result (λ whole. whole ≡ true → (worth : ℕ) (seeds : List Bool)
         → IsPassed (length history.now.schedule.opening) (raised (M.distance_by history.now.schedule.weights) lists.now)
-        history.now.schedule q.0 worth first marks.old marks.old states.old
+        history.now.schedule q.0 worth from seeds marks.old states.old
         → IsPassed (length history.now.schedule.opening) (raised (M.distance_by history.now.schedule.weights) lists.now)
-        history.now.schedule q.0 worth (length updates.now) marks.old marks.new states.new) }
+        history.now.schedule q.0 worth to seeds marks.new states.new) }
 {
     let _invariant = history.log(); // brings the invariant into the proof
     let mut list = Vec::new(alloc);
-    let mut place = 0usize;
-    for i in first..updates.len() {
+    for i in from..to {
         let row = index.accesses_of(history, updates[i], &mut list)?;
-        let own = rest_of(amounts, place);
+        let own = drafted.rest(i);
         let marked = is_forced(states, row, marks[i]);
         let keeps = steps(history.metric(), lists, states, row, own, marked);
         if !keeps {
             return Ok(false);
         }
         marks[i] = marked;
-        place = place.saturating_add(row.len());
     }
     Ok(true)
 }

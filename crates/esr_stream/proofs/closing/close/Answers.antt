@@ -1,4 +1,5 @@
-use Rattle.std.proofs.Common.{◌≡◌, ◌<◌, ◌-◌, suc, refl, sym, ap, ◌∙◌, subst, length, All, arith}
+use Rattle.std.proofs.Common.{◌≡◌, ◌<◌, ◌≤◌, ◌-◌, inl, inr, suc, refl, sym, ap, ◌∙◌, subst, length, All, arith}
+use Rattle.std.proofs.lemmas.Bool.{cases_lt}
 use Rattle.esr_history.specs.Queries.{updates_committed_before, must}
 use Rattle.esr_order.specs.declared.accesses.Access.{Access}
 use Rattle.esr_order.specs.Scans.{accesses_in}
@@ -57,8 +58,13 @@ pub returns-clause-forced : goal.returns-clause-forced
 returns-clause-forced g c = λ n worth C forced S closed low. c.loop-i.invariant.closed.spread S closed (forced S closed low)
 
 pub returns-clause-closed : goal.returns-clause-closed
-returns-clause-closed g c = λ firsts.
-    let z : c.loop-i.i ≡ 0 = omega (arith, c.loop-i-test.false) in
-    closed_set g.M.Metric.distance_by c.args.history.now.schedule c.args.q.0 c.log-invariant.ensures.legal c.loop-i.marks (length (must c.args.history.now.schedule c.args.q.0)) refl
-    (λ i l. c.loop-i.invariant.closed.stay i (firsts i l))
-    (λ i j l m b t. c.loop-i.invariant.closed.down i j (omega (arith, z)) l m b t)
+returns-clause-closed g c = λ musts firsts.
+    let h = c.args.history.now.schedule in
+    let q = c.args.q.0 in
+    let z : c.loop-i.i ≤ c.args.from = omega (arith, c.loop-i-test.false) in
+    closed_set g.M.Metric.distance_by h q c.log-invariant.ensures.legal c.loop-i.marks (length (must h q)) refl
+    (λ i l. c.loop-i.invariant.closed.stay i (musts i l))
+    (λ i j l m b t. elim (cases_lt i c.args.from) [
+      | inl low ↦ c.loop-i.invariant.closed.stay i (firsts i low)
+      | inr high ↦ c.loop-i.invariant.closed.down i j (omega (arith, z, high)) l m b t
+    ])

@@ -1,4 +1,4 @@
-use Rattle.std.proofs.Common.{◌<◌, ◌∙◌, ap, arith, length}
+use Rattle.std.proofs.Common.{◌≡◌, ◌<◌, ◌≤◌, ◌∙◌, sym, ap, subst, arith, length}
 use Rattle.std.proofs.lemmas.Bool.{lt-ltb}
 use Rattle.esr_order.proofs.Early.{must_below}
 use Rattle.esr_order.proofs.Gathered.{commits_length}
@@ -14,12 +14,12 @@ pub start-requires-clause-read : goal.start-requires-clause-read
 start-requires-clause-read g c =
     are_read g.M.Metric.distance_by c.args.history.now.schedule c.args.q.0 c.log-invariant.ensures.range c.log-invariant.ensures.legal c.args.lists.now c.requires.items c.requires.lists c.requires.query
 
-pub mark_least-requires-clause-read : goal.mark_least-requires-clause-read
-mark_least-requires-clause-read g c =
+pub find_drafted-requires-clause-read : goal.find_drafted-requires-clause-read
+find_drafted-requires-clause-read g c =
     are_read g.M.Metric.distance_by c.args.history.now.schedule c.args.q.0 c.log-invariant.ensures.range c.log-invariant.ensures.legal c.args.lists.now c.requires.items c.requires.lists c.requires.query
 
-pub mark_least-requires-clause-musts : goal.mark_least-requires-clause-musts
-mark_least-requires-clause-musts g c = λ i l.
+pub find_drafted-requires-clause-musts : goal.find_drafted-requires-clause-musts
+find_drafted-requires-clause-musts g c = λ i l.
     let h = c.args.history.now.schedule in
     let d = g.M.Metric.distance_by in
     let legal = c.log-invariant.ensures.legal in

@@ -1,31 +1,33 @@
-use Rattle.std.proofs.Common.{◌∙◌, refl, arith, length}
-use Rattle.esr_order.proofs.Gathered.{commits_length}
+use Rattle.std.proofs.Common.{◌≤◌, ◌∙◌, ℕ, IfSome, length, refl, subst, arith}
+use Rattle.esr_bound.specs.Amounts.{AreForced}
 use Rattle.esr_stream.specs.Reads.{raised}
-use Rattle.esr_stream.specs.Passes.{amounts_sum}
-use Rattle.esr_stream.proofs.MarkLaws.{first_forced}
+use Rattle.esr_stream.specs.Passes.{AreShown, amounts_sum}
+use Rattle.esr_stream.specs.declared.least.RoundEnd.{RoundEnd}
 use Rattle.esr_stream.proofs.least.mark_least.Goals as goal
 
 pub loop-round-init : goal.loop-round-init
-loop-round-init g c =
-    let h = c.args.history.now.schedule in
-    let d = g.M.Metric.distance_by in
-    let count = commits_length d h c.args.q.0 c.log-invariant.ensures.legal c.args.updates.now c.requires.updates in
-    record {
-      len = refl;
-      musts = c.requires.musts;
-      forced = first_forced d h c.args.q.0 c.log-invariant.ensures.legal (length h.opening) (amounts_sum c.args.begin.now) (raised (g.M.Metric.distance_by h.weights) c.args.lists.now) c.args.first c.args.marks.now c.requires.first
-          (λ i l. c.requires.only i (omega (arith, l, count, c.requires.marks)));
-    }
+loop-round-init g c = record {
+  len = refl;
+  musts = c.requires.musts;
+  shown = c.requires.shown;
+}
 
 pub loop-round-preserved : goal.loop-round-preserved
-loop-round-preserved g c = record {
-  len = c.round.ensures.len ∙ c.loop-round.invariant.len;
-  musts = c.round.ensures.musts;
-  forced = (c.in_ok-end.ensures.shown c.if-not-is_shown.false c.loop-round.invariant.forced).forced;
-}
+loop-round-preserved g c =
+    let low : c.args.worth ≤ amounts_sum c.args.begin.now = omega (arith, c.if-sum-worth.false, c.in-Some.ensures) in
+    let h = c.args.history.now.schedule in
+    let n = length h.opening in
+    let C = raised (g.M.Metric.distance_by h.weights) c.args.lists.now in
+    let shown : (w : ℕ) → w ≤ amounts_sum c.args.begin.now → AreForced n C h c.args.q.0 w c.loop-round.marks → AreShown n C h c.args.q.0 w c.round.new.marks =
+    subst (λ o. IfSome o (λ (e : RoundEnd). (w : ℕ) → w ≤ amounts_sum c.args.begin.now → AreForced n C h c.args.q.0 w c.loop-round.marks → AreShown n C h c.args.q.0 w c.round.new.marks)) c.in-Some-found.is c.in_ok-found.ensures.shown in
+    record {
+      len = c.round.ensures.len ∙ c.loop-round.invariant.len;
+      musts = λ i l. c.round.ensures.stay i (c.loop-round.invariant.musts i l);
+      shown = shown c.args.worth low c.loop-round.invariant.shown.forced;
+    }
 
 pub round-requires-clause-musts : goal.round-requires-clause-musts
 round-requires-clause-musts g c = c.loop-round.invariant.musts
 
-pub returns-then-not-end-clause-shown : goal.returns-then-not-end-clause-shown
-returns-then-not-end-clause-shown g c = λ t. c.in_ok-end.ensures.shown c.if-not-is_shown.false c.loop-round.invariant.forced
+pub returns-then-not-is_open-clause-shown : goal.returns-then-not-is_open-clause-shown
+returns-then-not-is_open-clause-shown g c = λ t. c.loop-round.invariant.shown

@@ -1,24 +1,21 @@
-use Rattle.std.proofs.Common.{◌≡◌, ◌∙◌, List, sym, ap, subst, arith, length}
-use Rattle.esr_order.proofs.Early.{must_below}
+use Rattle.std.proofs.Common.{◌≡◌, ◌∙◌, ◌≤◌, ℕ, Bool, List, Vec, Global, IfSome, sym, ap, subst, arith, length}
+use Rattle.esr_history.specs.Queries.{updates_committed_before}
 use Rattle.esr_order.proofs.Gathered.{commits_length}
 use Rattle.esr_bound.specs.Amounts.{Shows}
 use Rattle.esr_stream.specs.Reads.{raised}
-use Rattle.esr_stream.specs.Passes.{ItemState, IsPassed, amounts_sum}
-use Rattle.esr_stream.proofs.PassLaws.{passed_start, passed_end}
+use Rattle.esr_stream.specs.Passes.{AreFirst, AreStates, ItemState, IsPassed, amounts_sum}
+use Rattle.esr_stream.proofs.PassLaws.{passed_from, passed_end}
 use Rattle.esr_stream.proofs.least.round.Goals as goal
 
-pub pass-requires-clause-first : goal.pass-requires-clause-first
-pass-requires-clause-first g c =
-    let h = c.args.history.now.schedule in
-    let d = g.M.Metric.distance_by in
-    omega (arith, must_below d h c.args.q.0 c.log-invariant.ensures.legal, commits_length d h c.args.q.0 c.log-invariant.ensures.legal c.args.updates.now c.requires.updates, c.requires.first)
-
-pub pass-requires-clause-states : goal.pass-requires-clause-states
-pass-requires-clause-states g c =
+pub pass_through-requires-clause-states : goal.pass_through-requires-clause-states
+pass_through-requires-clause-states g c =
     ap (λ (l : List ItemState). length l) (c.deref_mut.ensures.value ∙ c.in_ok-states.ensures) ∙ (c.requires.begin c.args.marks.now c.requires.musts).len
 
+pub returns-clause-stay : goal.returns-clause-stay
+returns-clause-stay g c = λ i m. c.close.ensures.stay i (c.pass_through.ensures.stay i m)
+
 pub returns-clause-shown : goal.returns-clause-shown
-returns-clause-shown g c = λ is forced.
+returns-clause-shown g c = λ worth low forced.
     let h = c.args.history.now.schedule in
     let d = g.M.Metric.distance_by in
     let q = c.args.q.0 in
@@ -27,13 +24,35 @@ returns-clause-shown g c = λ is forced.
     let C = raised (g.M.Metric.distance_by h.weights) c.args.lists.now in
     let begin : List ItemState = c.args.begin.now in
     let seeds = c.args.marks.now in
-    let worth = amounts_sum begin in
+    let count = commits_length d h q legal c.args.updates.now c.requires.updates in
+    let inside : c.args.from ≤ length (updates_committed_before h q) = omega (arith, count, c.requires.low, c.requires.high) in
     let copied : c.deref_mut.result.now ≡ begin = c.deref_mut.ensures.value ∙ c.in_ok-states.ensures in
-    let started = subst (λ (l : List ItemState). IsPassed n C h q worth c.args.first seeds seeds l) (sym copied) (passed_start d h q legal C c.args.first seeds begin c.requires.first (c.requires.begin seeds c.requires.musts)) in
-    let ended = c.in_ok-whole.ensures.passed c.if-not-whole.false worth started in
-    let shows : Shows n C h q worth seeds c.pass.new.marks = passed_end d h q legal C worth (length c.args.updates.now) seeds c.pass.new.marks c.pass.new.states (commits_length d h q legal c.args.updates.now c.requires.updates) ended in
+    let started = subst (λ (l : List ItemState). IsPassed n C h q worth c.args.from seeds seeds l) (sym copied) (passed_from d h q legal C c.args.from worth seeds begin inside c.requires.musts low (c.requires.begin seeds c.requires.musts)) in
+    let passed : (w : ℕ) (ss : List Bool) → IsPassed n C h q w c.args.from ss seeds c.deref_mut.result.now → IsPassed n C h q w (length c.args.updates.now) ss c.pass_through.new.marks c.pass_through.new.states =
+    subst (λ o. IfSome o (λ (m : Vec ItemState Global). (w : ℕ) (ss : List Bool) → IsPassed n C h q w c.args.from ss seeds c.deref_mut.result.now → IsPassed n C h q w (length c.args.updates.now) ss c.pass_through.new.marks c.pass_through.new.states)) c.in-Some.is c.in_ok-found.ensures.passed in
+    let ended = passed worth seeds started in
+    let shows : Shows n C h q worth seeds c.pass_through.new.marks = passed_end d h q legal C worth (length c.args.updates.now) seeds c.pass_through.new.marks c.pass_through.new.states count ended in
     record {
       bound = shows.bound forced;
       forced = c.in_ok-has_added.ensures.forced n worth C (shows.forced forced);
-      closed = c.in_ok-has_added.ensures.closed (λ i l. c.pass.ensures.stay i (c.requires.musts i (omega (arith, l, c.requires.first))));
+      closed = c.in_ok-has_added.ensures.closed (λ i l. c.pass_through.ensures.stay i (c.requires.musts i (omega (arith, l, c.requires.first)))) (λ i l. c.pass_through.ensures.stay i (c.requires.musts i l));
     }
+
+pub returns-clause-middle : goal.returns-clause-middle
+returns-clause-middle g c = λ ms firsts.
+    let h = c.args.history.now.schedule in
+    let d = g.M.Metric.distance_by in
+    let q = c.args.q.0 in
+    let legal = c.log-invariant.ensures.legal in
+    let n = length h.opening in
+    let C = raised (g.M.Metric.distance_by h.weights) c.args.lists.now in
+    let begin : List ItemState = c.args.begin.now in
+    let seeds = c.args.marks.now in
+    let count = commits_length d h q legal c.args.updates.now c.requires.updates in
+    let inside : c.args.from ≤ length (updates_committed_before h q) = omega (arith, count, c.requires.low, c.requires.high) in
+    let copied : c.deref_mut.result.now ≡ begin = c.deref_mut.ensures.value ∙ c.in_ok-states.ensures in
+    let low : 0 ≤ amounts_sum begin = omega arith in
+    let started = subst (λ (l : List ItemState). IsPassed n C h q 0 c.args.from seeds seeds l) (sym copied) (passed_from d h q legal C c.args.from 0 seeds begin inside c.requires.musts low (c.requires.begin seeds c.requires.musts)) in
+    let kept : (w : ℕ) (ss ms : List Bool) → IsPassed n C h q w c.args.from ss seeds c.deref_mut.result.now → AreFirst c.args.middle ms → AreStates C h q c.args.middle ms c.in-Some.kept.items =
+    subst (λ o. IfSome o (λ (m : Vec ItemState Global). (w : ℕ) (ss ms : List Bool) → IsPassed n C h q w c.args.from ss seeds c.deref_mut.result.now → AreFirst c.args.middle ms → AreStates C h q c.args.middle ms m.items)) c.in-Some.is c.in_ok-found.ensures.middle in
+    kept 0 seeds ms started firsts

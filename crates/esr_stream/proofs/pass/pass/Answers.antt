@@ -35,7 +35,7 @@ loop-i-preserved g c =
     let i = c.loop-i.i in
     let C = raised (g.M.Metric.distance_by c.args.history.now.schedule.weights) c.args.lists.now in
     let row = c.in_ok-row.row.now in
-    let here : i < length updates = c.loop-i-test.true in
+    let here : i < length updates = omega (arith, c.loop-i-test.true, c.requires.to) in
     let inside : i < length (updates_committed_before h q) = omega (arith, here, commits_length d h q legal updates c.requires.updates) in
     let sized : i < length c.loop-i.marks = omega (arith, here, c.loop-i.invariant.marks, c.requires.marks) in
     let is_row = c.in_ok-row.ensures ∙ ap (accesses_in h.entries) (number_at updates (updates_committed_before h q) i no_txn c.requires.updates here) in
@@ -48,15 +48,15 @@ loop-i-preserved g c =
       len = c.steps-keeps.ensures.len ∙ c.loop-i.invariant.len;
       marks = length-set c.loop-i.marks i marked ∙ c.loop-i.invariant.marks;
       stay = stay_more c.args.marks.now c.loop-i.marks i marked sized (λ m. c.is_forced-marked.ensures ∙ or_left _ _ m) c.loop-i.invariant.stay;
-      passed = λ worth p.
-          passed_more d h q legal C worth i c.args.marks.now c.loop-i.marks marked row c.loop-i.states c.steps-keeps.new.states kept.0 kept.1 (c.loop-i.invariant.passed worth p) inside sized is_row items
+      passed = λ worth seeds p.
+          passed_more d h q legal C worth i seeds c.loop-i.marks marked row c.loop-i.states c.steps-keeps.new.states kept.0 kept.1 (c.loop-i.invariant.passed worth seeds p) inside sized is_row items
           (λ m. elim (or_cases _ _ (sym c.is_forced-marked.ensures ∙ m)) [ inl a ↦ inl a | inr b ↦ inr b ])
           put kept.3;
     }
 
 pub returns-clause-passed : goal.returns-clause-passed
-returns-clause-passed g c = λ whole worth p.
+returns-clause-passed g c = λ whole worth seeds p.
     let h = c.args.history.now.schedule in
     let C = raised (g.M.Metric.distance_by h.weights) c.args.lists.now in
-    let e : c.loop-i.i ≡ length c.args.updates.now = omega (arith, c.loop-i-test.false, c.loop-i.auto.i-end, c.requires.first) in
-    subst (λ m. IsPassed (length h.opening) C h c.args.q.0 worth m c.args.marks.now c.loop-i.marks c.loop-i.states) e (c.loop-i.invariant.passed worth p)
+    let e : c.loop-i.i ≡ c.args.to = omega (arith, c.loop-i-test.false, c.loop-i.auto.i-end, c.requires.from) in
+    subst (λ m. IsPassed (length h.opening) C h c.args.q.0 worth m seeds c.loop-i.marks c.loop-i.states) e (c.loop-i.invariant.passed worth seeds p)

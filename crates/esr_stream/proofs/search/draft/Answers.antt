@@ -3,7 +3,7 @@ use Rattle.esr_items.specs.Values.{IsValue}
 use Rattle.esr_order.specs.declared.accesses.Access.{Access}
 use Rattle.esr_order.proofs.Accessed.{accesses_inside}
 use Rattle.esr_stream.proofs.StepLaws.{accesses_valued}
-use Rattle.esr_stream.proofs.draft.draft.Goals as goal
+use Rattle.esr_stream.proofs.search.draft.Goals as goal
 
 pub push_row-requires-clause-row : goal.push_row-requires-clause-row
 push_row-requires-clause-row g c =
