@@ -27,6 +27,7 @@ mod items;
 mod least;
 mod pass;
 mod reads;
+mod rounds;
 mod search;
 
 pub use least::{Least, least_of};

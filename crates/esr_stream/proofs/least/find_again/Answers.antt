@@ -2,7 +2,7 @@ use Rattle.std.proofs.Common.{◌≡◌, ◌≤◌, ◌∙◌, ℕ, IfSome, leng
 use Rattle.esr_bound.specs.Amounts.{AreForced}
 use Rattle.esr_stream.specs.Reads.{raised}
 use Rattle.esr_stream.specs.Passes.{AreShown, amounts_sum}
-use Rattle.esr_stream.specs.declared.least.RoundEnd.{RoundEnd}
+use Rattle.esr_stream.specs.declared.rounds.RoundEnd.{RoundEnd}
 use Rattle.esr_stream.proofs.least.find_again.Goals as goal
 
 pub find_from-requires-2-clause-shown : goal.find_from-requires-2-clause-shown

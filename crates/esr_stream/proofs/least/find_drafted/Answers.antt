@@ -5,7 +5,7 @@ use Rattle.esr_order.proofs.Gathered.{commits_length}
 use Rattle.esr_bound.specs.Amounts.{AreForced}
 use Rattle.esr_stream.specs.Reads.{raised}
 use Rattle.esr_stream.specs.Passes.{AreShown, amounts_sum}
-use Rattle.esr_stream.specs.declared.least.RoundEnd.{RoundEnd}
+use Rattle.esr_stream.specs.declared.rounds.RoundEnd.{RoundEnd}
 use Rattle.esr_stream.proofs.MarkLaws.{first_forced}
 use Rattle.esr_stream.proofs.least.find_drafted.Goals as goal
 

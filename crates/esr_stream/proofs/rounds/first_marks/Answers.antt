@@ -2,7 +2,7 @@ use Rattle.std.proofs.Common.{◌≡◌, ◌+◌, ◌<◌, ◌∙◌, ◌++◌, 
 use Rattle.std.proofs.lemmas.Bool.{cases_eq}
 use Rattle.std.proofs.lemmas.List.{length_push}
 use Rattle.esr_bound.specs.Amounts.{mark_at}
-use Rattle.esr_stream.proofs.least.first_marks.Goals as goal
+use Rattle.esr_stream.proofs.rounds.first_marks.Goals as goal
 
 at_pushed : (marks : List Bool) (b : Bool) → mark_at (marks ++ b ∷ []) (length marks) ≡ b
 at_pushed [] b = refl

@@ -1,6 +1,6 @@
 use Rattle.std.proofs.Common.{◌≡◌, ◌<◌, ℕ, length, nat_lt}
 use Rattle.esr_bound.specs.Amounts.{mark_at}
-use Rattle.esr_stream.proofs.least.first_marks.Given as goal
+use Rattle.esr_stream.proofs.rounds.first_marks.Given as goal
 
 abbrev pub invariant-loop-i : goal.invariant-loop-i
 invariant-loop-i l = record {

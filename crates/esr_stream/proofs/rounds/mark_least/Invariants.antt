@@ -1,7 +1,7 @@
 use Rattle.std.proofs.Common.{◌≡◌, length}
 use Rattle.esr_stream.specs.Reads.{raised}
 use Rattle.esr_stream.specs.Passes.{AreFirst, AreShown}
-use Rattle.esr_stream.proofs.least.mark_least.Given as goal
+use Rattle.esr_stream.proofs.rounds.mark_least.Given as goal
 
 abbrev pub invariant-loop-round : goal.invariant-loop-round
 invariant-loop-round g l = record {

@@ -2,7 +2,7 @@ use Rattle.std.proofs.Common.{◌≡◌, ◌∙◌, List, length}
 use Rattle.esr_stream.specs.Reads.{raised}
 use Rattle.esr_stream.specs.Passes.{ItemState, AreFirst, IsPassed}
 use Rattle.esr_stream.proofs.StepLaws.{states_covered}
-use Rattle.esr_stream.proofs.least.pass_through.Goals as goal
+use Rattle.esr_stream.proofs.rounds.pass_through.Goals as goal
 
 pub pass-requires-2-clause-states : goal.pass-requires-2-clause-states
 pass-requires-2-clause-states g c = c.pass.ensures.states_len ∙ c.requires.states

@@ -2,8 +2,8 @@ use Rattle.std.proofs.Common.{◌≤◌, ◌∙◌, ℕ, IfSome, length, refl, s
 use Rattle.esr_bound.specs.Amounts.{AreForced}
 use Rattle.esr_stream.specs.Reads.{raised}
 use Rattle.esr_stream.specs.Passes.{AreShown, amounts_sum}
-use Rattle.esr_stream.specs.declared.least.RoundEnd.{RoundEnd}
-use Rattle.esr_stream.proofs.least.mark_least.Goals as goal
+use Rattle.esr_stream.specs.declared.rounds.RoundEnd.{RoundEnd}
+use Rattle.esr_stream.proofs.rounds.mark_least.Goals as goal
 
 pub loop-round-init : goal.loop-round-init
 loop-round-init g c = record {

@@ -5,7 +5,7 @@ use Rattle.esr_bound.specs.Amounts.{Shows}
 use Rattle.esr_stream.specs.Reads.{raised}
 use Rattle.esr_stream.specs.Passes.{AreFirst, AreStates, ItemState, IsPassed, amounts_sum}
 use Rattle.esr_stream.proofs.PassLaws.{passed_from, passed_end}
-use Rattle.esr_stream.proofs.least.round.Goals as goal
+use Rattle.esr_stream.proofs.rounds.round.Goals as goal
 
 pub pass_through-requires-clause-states : goal.pass_through-requires-clause-states
 pass_through-requires-clause-states g c =
