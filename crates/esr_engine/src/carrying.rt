@@ -477,11 +477,13 @@ impl EmbeddedEngine {
         Ok(entries)
     }
 
-    /// Creates the engine of the new history by a replay of these entries over the committed values.
+    /// Creates the engine of the new history by a replay of these entries over the committed values, in the memory of a
+    /// spare machine if there is one.
     pub(crate) fn carried(
         &self,
         alloc: Global,
         entries: &[Entry],
+        spare: Option<Machine<Weighted>>,
     ) -> Result<EmbeddedEngine, NoMemory>
         requires { entries.now ≡ carried_entries weighted self.now }
         ensures { IfOk result (λ e. e ≡ carried weighted self.now) }
@@ -492,13 +494,15 @@ impl EmbeddedEngine {
             weights,
             active: _,
             index,
-        } = self.successor(alloc)?;
+            spare: _,
+        } = self.successor(alloc, spare)?;
         replay(&mut machine, entries)?;
         Ok(EmbeddedEngine {
             machine,
             weights,
             active: self.active,
             index,
+            spare: None,
         })
     }
 }

@@ -53,6 +53,8 @@ pub struct EmbeddedEngine {
     pub(crate) weights: Vec<u32>,
     pub(crate) active: usize,
     pub(crate) index: Index,
+    /// The machine that a renewal has replaced last, whose memory the next one reuses.
+    pub(crate) spare: Option<Machine<Weighted>>,
 }
 
 impl Model for EmbeddedEngine {
@@ -232,6 +234,7 @@ impl EmbeddedEngine {
             weights: _,
             active: _,
             index: _,
+            spare: _,
         } = self;
         machine.close()
     }

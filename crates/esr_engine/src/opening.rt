@@ -99,6 +99,7 @@ pub(crate) fn engine_of(
         weights,
         active: 0,
         index: Index::new(alloc),
+        spare: None,
     })
 }
 

@@ -4,6 +4,10 @@
 //! memory of the old one and reserves capacity for the same number of transactions. Otherwise its lists would grow again from
 //! empty, and two histories of 30 MB would compete for the cache. The caller passes the metric in again, because a history
 //! owns its metric and does not return it. There is no call that truncates a history, because an audit needs all of it.
+//!
+//! A renewal that carries transactions over needs the old machine until the new one has replayed what is carried. So the new
+//! one cannot have the old one's memory. Instead two machines take turns: `successor` reuses a spare machine, which is the
+//! one that was replaced last.
 ghost use Rattle.esr_base.specs.declared.limits.TheConstants.{MAX_ITEMS};
 ghost use Rattle.std.specs.Prelude.{◌≡◌, ◌<◌, ◌≤◌, ◌↔◌, true, [], length, List, All, IfOk, OnOk, OnErr, IsErrOf};
 ghost use Rattle.std.specs.List.{list_any};
@@ -17,7 +21,7 @@ ghost use Rattle.esr_core.specs.Renewed.{committed_values, has_active, renewed, 
 
 use super::{Machine, committed_values};
 use crate::state::{State, Transaction};
-use esr_history::NoMemory;
+use esr_history::{History, NoMemory};
 use esr_items::{ItemId, Metric, Store};
 use std::alloc::{AllocError, Global};
 use thiserror::Error;
@@ -97,6 +101,39 @@ impl<M: Metric + Drop> Machine<M> {
         }
     }
 
+    /// Creates a machine over the committed values, which has an empty history with this metric. It reuses the memory of a
+    /// spare machine that has as many items.
+    pub fn successor(
+        &self,
+        alloc: Global,
+        spare: Option<Machine<M>>,
+        metric: M,
+    ) -> Result<Machine<M>, NoMemory>
+        ensures { IfOk result (λ m. m ≡ renewed self.now (M.weights metric)) }
+    {
+        let (state, opening) = self.fresh(alloc)?;
+        match spare {
+            Some(machine) if machine.history.items() == self.history.items() => {
+                let Machine {
+                    state: _,
+                    charges,
+                    mut history,
+                } = machine;
+                history.restart(opening, metric);
+                Ok(Machine {
+                    state,
+                    charges,
+                    history,
+                })
+            }
+            _ => Ok(Machine {
+                state,
+                charges: Vec::new(alloc),
+                history: History::new(alloc, opening, metric)?,
+            }),
+        }
+    }
+
     /// Returns the state of an empty history over the committed values, and these values. The state has capacity for as
     /// many transactions as before, so that its lists need not grow again.
     fn fresh(&self, alloc: Global) -> Result<(State, Vec<i64>), NoMemory>
@@ -104,6 +141,7 @@ impl<M: Metric + Drop> Machine<M> {
             → IsStateOf d h p.0) }
         ensures opening { IfOk result (λ p. p.1.items ≡ committed_values self.now) }
         ensures range { IfOk result (λ p. All IsValue p.1.items) }
+        ensures count_within_max { IfOk result (λ p. length p.1.items ≤ MAX_ITEMS) }
         ensures legal { IsLegal M.distance_by self.now }
     {
         let _invariant = self.history.log(); // brings the invariant into the proof

@@ -9,12 +9,12 @@ use Rattle.esr_engine.proofs.engine.EmbeddedEngine.renew_carrying.Goals as goal
 
 pub returns-clause-over : goal.returns-clause-over
 returns-clause-over c =
-    subst (IsCarriedOver weighted c.args.self.now) (sym (c.drop.view_is ∙ c.in_ok-self-inside.ensures))
+    subst (IsCarriedOver weighted c.args.self.now) (sym (c.replace_by.ensures ∙ c.in_ok-next.ensures.carried))
     (carried_over c.args.self.now (subst (IsLegal weighted) c.self.view_is c.log-invariant.ensures.legal))
 
 pub returns-clause-serializable : goal.returns-clause-serializable
 returns-clause-serializable c =
-    λ later goes_on. as_one weighted c.args.self.now _ (subst (IsLegal weighted) c.self.view_is c.log-invariant.ensures.legal) goes_on (ap (λ (g : Schedule). g.opening) (c.drop.view_is ∙ c.in_ok-self-inside.ensures))
+    λ later goes_on. as_one weighted c.args.self.now _ (subst (IsLegal weighted) c.self.view_is c.log-invariant.ensures.legal) goes_on (ap (λ (g : Schedule). g.opening) (c.replace_by.ensures ∙ c.in_ok-next.ensures.carried))
 
 pub returns-clause-room : goal.returns-clause-room
-returns-clause-room c = subst (λ (g : Schedule). taken g ≤ taken c.args.self.now) (sym (c.drop.view_is ∙ c.in_ok-self-inside.ensures)) (room_kept c.args.self.now)
+returns-clause-room c = subst (λ (g : Schedule). taken g ≤ taken c.args.self.now) (sym (c.replace_by.ensures ∙ c.in_ok-next.ensures.carried)) (room_kept c.args.self.now)
