@@ -25,9 +25,9 @@ use Rattle.esr_audit.specs.Problems.{IsProblemOf}
 use Rattle.esr_audit.specs.Ranges.{listed}
 
 -- the reason for a failed audit if no order was built
-abbrev pub refusal_of : OrderError → AuditError
-refusal_of NotACommittedQuery = refusals.NotACommittedQuery
-refusal_of NoMemory = refusals.NoMemory
+abbrev pub audit_error_of : OrderError → AuditError
+audit_error_of NotACommittedQuery = refusals.NotACommittedQuery
+audit_error_of NoMemory = refusals.NoMemory
 
 -- q is a query that has committed. The distance is the least over all placements of q; `before` is, in commit order, the
 -- smallest set of updates before the position in a placement of that distance; and the distance is at most the import

@@ -114,7 +114,7 @@ pub fn audit_query<M: Metric>(
 ) -> Result<Finding, AuditError>
     ensures query { IfOk result (λ f. f.query ≡ q) }
     ensures finding { IfOk result (IsFindingOf M.distance_by history.now.schedule q.0) }
-    ensures refused { IsErrOf result AuditError.NotACommittedQuery
+    ensures not_committed_query { IsErrOf result AuditError.NotACommittedQuery
         ↔ (is_committed_query history.now.schedule q.0 ≡ false) }
     ensures no_worker_error { ¬ IsErrOf result AuditError.WorkersOutOfRange }
     ensures stable { IfOk result (λ f. (rest : List Entry) → IsLegal M.distance_by (continued history.now.schedule rest)
@@ -140,7 +140,7 @@ pub fn audit_query_with_commits<M: Metric>(
     requires { map (λ t. t.0) committed.now ≡ commit_order (accepted_in history.now.schedule) }
     ensures query { IfOk result (λ f. f.query ≡ q) }
     ensures finding { IfOk result (IsFindingOf M.distance_by history.now.schedule q.0) }
-    ensures refused { IsErrOf result AuditError.NotACommittedQuery
+    ensures not_committed_query { IsErrOf result AuditError.NotACommittedQuery
         ↔ (is_committed_query history.now.schedule q.0 ≡ false) }
     ensures no_worker_error { ¬ IsErrOf result AuditError.WorkersOutOfRange }
 {
@@ -162,7 +162,7 @@ pub fn audit_query_with_index<M: Metric>(
     requires { IsWholeIndexOf history.now.schedule.entries index.now }
     ensures query { IfOk result (λ f. f.query ≡ q) }
     ensures finding { IfOk result (IsFindingOf M.distance_by history.now.schedule q.0) }
-    ensures refused { IsErrOf result AuditError.NotACommittedQuery
+    ensures not_committed_query { IsErrOf result AuditError.NotACommittedQuery
         ↔ (is_committed_query history.now.schedule q.0 ≡ false) }
     ensures no_worker_error { ¬ IsErrOf result AuditError.WorkersOutOfRange }
 {

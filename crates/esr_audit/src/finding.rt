@@ -3,7 +3,7 @@
 
 ghost use Rattle.std.specs.Prelude.{◌≡◌};
 ghost use Rattle.esr_audit.specs.declared.finding.AuditError.TheVariants.{NoMemory};
-ghost use Rattle.esr_audit.specs.Findings.{refusal_of};
+ghost use Rattle.esr_audit.specs.Findings.{audit_error_of};
 
 use crate::ranges::TxnList;
 use esr_cert::{Certificate, Problem};
@@ -87,7 +87,7 @@ impl From<NoMemory> for AuditError {
 }
 
 impl From<OrderError> for AuditError {
-    ghost from_gives = { λ why e. e ≡ refusal_of why };
+    ghost from_gives = { λ why e. e ≡ audit_error_of why };
 
     fn from(why: OrderError) -> AuditError {
         match why {

@@ -37,7 +37,7 @@ pub trait AuditResult<M: Metric>: Drop {
     ) -> Result<Self, AuditError>
         requires { IsWholeIndexOf history.now.schedule.entries index.now }
         ensures kept { IfOk result (IsKeptOf keeps M.distance_by history.now.schedule q) }
-        ensures refused { IsErrOf result AuditError.NotACommittedQuery
+        ensures not_committed_query { IsErrOf result AuditError.NotACommittedQuery
             ↔ (is_committed_query history.now.schedule q.0 ≡ false) }
         ensures no_worker_error { ¬ IsErrOf result AuditError.WorkersOutOfRange };
 }

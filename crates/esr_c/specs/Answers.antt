@@ -86,18 +86,18 @@ abbrev pub IsFound : Schedule → ℕ → EsrFinding → List ℕ → Type 0
 IsFound h q f buffer = IsFinding h q f (take f.count buffer)
 
 -- a finding whose updates do not fit into the caller's buffer
-abbrev pub HasAugmentationCount : Schedule → ℕ → EsrFinding → Type 0
-HasAugmentationCount h q f = (before : List ℕ) × IsFinding h q f before
+abbrev pub IsFindingWithoutList : Schedule → ℕ → EsrFinding → Type 0
+IsFindingWithoutList h q f = (before : List ℕ) × IsFinding h q f before
 
 -- a certificate without the number of augmentations that lead to its flow
-abbrev pub unreported : Certificate → Certificate
-unreported c = record c { augmentations = None }
+abbrev pub without_count : Certificate → Certificate
+without_count c = record c { augmentations = None }
 
 -- the bytes are the bundle of what the audit of a query finds
 pub record IsBundleOf (h : Schedule) (q : ℕ) (bytes : List ℕ) : Type 0 where
   pub finding : Finding
   pub found : IsFindingOf weighted h q finding
-  pub text : bytes ≡ bundle finding.problem (unreported (certificate_of finding.certificate))
+  pub text : bytes ≡ bundle finding.problem (without_count (certificate_of finding.certificate))
 
 -- such bytes at the start of a buffer
 abbrev pub IsBundleIn : Schedule → ℕ → ℕ → List ℕ → Type 0
@@ -212,8 +212,8 @@ IsWeightedOpenStatus n = IsOpenStatus n ⊎ (n ≡ 4)
 abbrev pub IsRenewStatus : ℕ → Type 0
 IsRenewStatus n = (n ≡ 0) ⊎ ((n ≡ 13) ⊎ ((n ≡ 14) ⊎ (n ≡ 16)))
 
-abbrev pub IsValuesStatus : ℕ → Type 0
-IsValuesStatus n = (n ≡ 0) ⊎ ((n ≡ 7) ⊎ ((n ≡ 13) ⊎ (n ≡ 14)))
+abbrev pub IsBufferStatus : ℕ → Type 0
+IsBufferStatus n = (n ≡ 0) ⊎ ((n ≡ 7) ⊎ ((n ≡ 13) ⊎ (n ≡ 14)))
 
 abbrev pub IsAuditStatus : ℕ → Type 0
 IsAuditStatus n = (n ≡ 0) ⊎ ((n ≡ 6) ⊎ ((n ≡ 7) ⊎ ((n ≡ 13) ⊎ (n ≡ 14))))

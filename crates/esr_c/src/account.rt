@@ -44,7 +44,7 @@ fn fields(account: Account) -> EsrAccount
 
 pub(crate) fn show_account(engine: &EmbeddedEngine, txn: u32, account: &mut EsrAccount) -> Status
     ensures statuses { (result ≡ Status.Done) ⊎ (result ≡ Status.NotBegun) }
-    ensures refused { (result ≡ Status.NotBegun) ↔ (is_begun (accepted_in engine.now) txn ≡ false) }
+    ensures not_begun { (result ≡ Status.NotBegun) ↔ (is_begun (accepted_in engine.now) txn ≡ false) }
     ensures account { result ≡ Status.Done → IsAccount engine.now txn account.new }
     ensures err { result ≢ Status.Done → account.new ≡ account.old }
 {

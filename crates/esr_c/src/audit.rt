@@ -6,7 +6,7 @@ ghost use Rattle.esr_items.specs.Weights.{weighted};
 ghost use Rattle.esr_history.specs.Queries.{is_committed_query};
 ghost use Rattle.esr_history.specs.Totals.{IsWithinLimits};
 ghost use Rattle.esr_audit.specs.Findings.{IsFindingOf};
-ghost use Rattle.esr_c.specs.Answers.{IsTotal, IsFound, HasAugmentationCount, IsBundleOf, IsBundleIn, IsBundleLong, AreValuesIn, IsAuditStatus, IsValuesStatus, status_number};
+ghost use Rattle.esr_c.specs.Answers.{IsTotal, IsFound, IsFindingWithoutList, IsBundleOf, IsBundleIn, IsBundleLong, AreValuesIn, IsAuditStatus, IsBufferStatus, status_number};
 
 use crate::engine::Status;
 use esr_audit::{AuditError, Finding};
@@ -86,14 +86,14 @@ pub(crate) fn show_values(
     values: &mut [i64],
     count: &mut usize,
 ) -> Status
-    ensures statuses { IsValuesStatus (status_number result) }
+    ensures statuses { IsBufferStatus (status_number result) }
     ensures open { result ≢ Status.Closed }
     ensures values { result ≡ Status.Done → AreValuesIn engine.now count.new values.new }
     ensures small { result ≡ Status.TooSmall → (length values.old < count.new)
         × (count.new ≡ length engine.now.opening) }
     ensures kept { result ≢ Status.Done → values.new ≡ values.old }
     ensures rest { drop count.new values.new ≡ drop count.new values.old }
-    ensures unreported { result ≢ Status.Done → result ≢ Status.TooSmall → count.new ≡ count.old }
+    ensures count_kept { result ≢ Status.Done → result ≢ Status.TooSmall → count.new ≡ count.old }
 {
     match engine.committed_values(alloc) {
         Ok(list) => hand_out(values, count, &list),
@@ -116,7 +116,7 @@ pub(crate) fn find(
     ensures same { engine.new ≡ engine.old }
     ensures query { IfOk result (λ f. f.query.0 ≡ query) }
     ensures ok { IfOk result (IsFindingOf weighted engine.old query) }
-    ensures refused { IsErrOf result Status.NotACommittedQuery ↔ (is_committed_query engine.old query ≡ false) }
+    ensures not_committed_query { IsErrOf result Status.NotACommittedQuery ↔ (is_committed_query engine.old query ≡ false) }
     ensures err { IfErr result (λ e. (e ≡ Status.NotACommittedQuery) ⊎ (e ≡ Status.NoMemory)) }
 {
     match engine.audit(alloc, TxnId(query)) {
@@ -136,13 +136,13 @@ pub(crate) fn show_finding(
     ensures same { engine.new ≡ engine.old }
     ensures statuses { IsAuditStatus (status_number result) }
     ensures open { result ≢ Status.Closed }
-    ensures refused { (result ≡ Status.NotACommittedQuery) ↔ (is_committed_query engine.old query ≡ false) }
+    ensures not_committed_query { (result ≡ Status.NotACommittedQuery) ↔ (is_committed_query engine.old query ≡ false) }
     ensures found { result ≡ Status.Done → IsFound engine.old query finding.new before.new }
     ensures small { result ≡ Status.TooSmall → (length before.old < finding.new.count)
-        × HasAugmentationCount engine.old query finding.new }
+        × IsFindingWithoutList engine.old query finding.new }
     ensures kept { result ≢ Status.Done → before.new ≡ before.old }
     ensures rest { drop finding.new.count before.new ≡ drop finding.new.count before.old }
-    ensures unreported { result ≢ Status.Done → result ≢ Status.TooSmall → finding.new ≡ finding.old }
+    ensures count_kept { result ≢ Status.Done → result ≢ Status.TooSmall → finding.new ≡ finding.old }
 {
     let found = match find(alloc, engine, query) {
         Ok(found) => found,
@@ -160,7 +160,7 @@ pub(crate) fn show_finding(
 fn bundle(alloc: Global, engine: &mut EmbeddedEngine, query: u32) -> Result<Vec<u8>, Status>
     ensures same { engine.new ≡ engine.old }
     ensures ok { IfOk result (λ v. IsBundleOf engine.old query v.items) }
-    ensures refused { IsErrOf result Status.NotACommittedQuery ↔ (is_committed_query engine.old query ≡ false) }
+    ensures not_committed_query { IsErrOf result Status.NotACommittedQuery ↔ (is_committed_query engine.old query ≡ false) }
     ensures err { IfErr result (λ e. (e ≡ Status.NotACommittedQuery) ⊎ (e ≡ Status.NoMemory)) }
 {
     let mut found = find(alloc, engine, query)?;
@@ -181,13 +181,13 @@ pub(crate) fn show_bundle(
     ensures same { engine.new ≡ engine.old }
     ensures statuses { IsAuditStatus (status_number result) }
     ensures open { result ≢ Status.Closed }
-    ensures refused { (result ≡ Status.NotACommittedQuery) ↔ (is_committed_query engine.old query ≡ false) }
+    ensures not_committed_query { (result ≡ Status.NotACommittedQuery) ↔ (is_committed_query engine.old query ≡ false) }
     ensures bundle { result ≡ Status.Done → IsBundleIn engine.old query count.new bytes.new }
     ensures small { result ≡ Status.TooSmall → (length bytes.old < count.new)
         × IsBundleLong engine.old query count.new }
     ensures kept { result ≢ Status.Done → bytes.new ≡ bytes.old }
     ensures rest { drop count.new bytes.new ≡ drop count.new bytes.old }
-    ensures unreported { result ≢ Status.Done → result ≢ Status.TooSmall → count.new ≡ count.old }
+    ensures count_kept { result ≢ Status.Done → result ≢ Status.TooSmall → count.new ≡ count.old }
 {
     match bundle(alloc, engine, query) {
         Ok(text) => hand_out(bytes, count, &text),

@@ -5,7 +5,7 @@ ghost use Rattle.esr_items.specs.Weights.{weighted};
 ghost use Rattle.esr_history.specs.Machine.{accepted_in};
 ghost use Rattle.esr_core.specs.Carried.{carried};
 ghost use Rattle.esr_engine.specs.Capacity.{active_count};
-ghost use Rattle.esr_c.specs.Answers.{carried_fields, status_number, AreCarriedIn, IsCarriedRenewal, IsValuesStatus};
+ghost use Rattle.esr_c.specs.Answers.{carried_fields, status_number, AreCarriedIn, IsCarriedRenewal, IsBufferStatus};
 
 use crate::engine::Status;
 use esr_engine::{CarriedTxn, EmbeddedEngine};
@@ -51,7 +51,7 @@ pub(crate) fn renew_engine_carrying(
     txns: &mut [EsrCarried],
     count: &mut usize,
 ) -> Status
-    ensures statuses { IsValuesStatus (status_number result) }
+    ensures statuses { IsBufferStatus (status_number result) }
     ensures open { result ≢ Status.Closed }
     ensures count { count.new ≡ active_count (accepted_in engine.old) }
     ensures small { (status_number result ≡ 7) ↔ (length txns.old < active_count (accepted_in engine.old)) }

@@ -24,7 +24,7 @@ ghost use Rattle.esr_engine.specs.Capacity.{HasReservedEnds, active_count, count
 ghost use Rattle.esr_c.specs.Many.{AreAnswered, IsAnsweredStatus, IsEnd};
 ghost use Rattle.esr_svg.specs.Svg.{IsSvg};
 ghost use Rattle.esr_c.specs.HistoryTexts.{HasNameForEachItem, IsExplanationOf, IsLedgerOf, IsScriptOf, IsTextStatus, IsQueryTextStatus, IsTextInBuffer, IsTextLength, parsed_item_names};
-ghost use Rattle.esr_c.specs.Answers.{opened, IsEventCall, IsForUpdateCall, IsTotal, IsAccount, IsFound, HasAugmentationCount, IsBundleIn, IsBundleLong, AreCarriedIn, AreValuesIn, IsCarriedRenewal, IsRenewed, IsOpenStatus, IsWeightedOpenStatus, IsRenewStatus, IsValuesStatus, IsAuditStatus, IsVerdictIn};
+ghost use Rattle.esr_c.specs.Answers.{opened, IsEventCall, IsForUpdateCall, IsTotal, IsAccount, IsFound, IsFindingWithoutList, IsBundleIn, IsBundleLong, AreCarriedIn, AreValuesIn, IsCarriedRenewal, IsRenewed, IsOpenStatus, IsWeightedOpenStatus, IsRenewStatus, IsBufferStatus, IsAuditStatus, IsVerdictIn};
 
 mod account;
 mod audit;
@@ -306,7 +306,7 @@ pub extern "C" fn esr_account_of(
 ) -> u32
     ensures closed { result ≡ 14 ↔ (engine.old.held.history ≡ None) }
     ensures statuses { (result ≡ 0) ⊎ ((result ≡ 3) ⊎ (result ≡ 14)) }
-    ensures refused { IfSome engine.old.held.history (λ h. (result ≡ 3) ↔ (is_begun (accepted_in h) txn ≡ false)) }
+    ensures not_begun { IfSome engine.old.held.history (λ h. (result ≡ 3) ↔ (is_begun (accepted_in h) txn ≡ false)) }
     ensures same { engine.new.held.history ≡ engine.old.held.history }
     ensures account { result ≡ 0 → IfSome engine.old.held.history (λ h. IsAccount h txn account.new) }
     ensures err { result ≢ 0 → account.new ≡ account.old }
@@ -330,7 +330,7 @@ pub extern "C" fn esr_values(
     values: &mut [i64],
     count: &mut usize,
 ) -> u32
-    ensures status { IsValuesStatus result }
+    ensures status { IsBufferStatus result }
     ensures closed { result ≡ 14 ↔ (engine.old.held.history ≡ None) }
     ensures same { engine.new.held.history ≡ engine.old.held.history }
     ensures values { result ≡ 0 → IfSome engine.old.held.history (λ h. AreValuesIn h count.new values.new) }
@@ -338,7 +338,7 @@ pub extern "C" fn esr_values(
         × IfSome engine.old.held.history (λ h. count.new ≡ length h.opening) }
     ensures kept { result ≢ 0 → values.new ≡ values.old }
     ensures rest { drop count.new values.new ≡ drop count.new values.old }
-    ensures unreported { result ≢ 0 → result ≢ 7 → count.new ≡ count.old }
+    ensures count_kept { result ≢ 0 → result ≢ 7 → count.new ≡ count.old }
 {
     let Some(inner) = take_engine(alloc, engine) else {
         return Status::Closed.number();
@@ -362,14 +362,14 @@ pub extern "C" fn esr_audit(
 ) -> u32
     ensures status { IsAuditStatus result }
     ensures closed { result ≡ 14 ↔ (engine.old.held.history ≡ None) }
-    ensures refused { IfSome engine.old.held.history (λ h. (result ≡ 6) ↔ (is_committed_query h query ≡ false)) }
+    ensures not_committed_query { IfSome engine.old.held.history (λ h. (result ≡ 6) ↔ (is_committed_query h query ≡ false)) }
     ensures same { engine.new.held.history ≡ engine.old.held.history }
     ensures found { result ≡ 0 → IfSome engine.old.held.history (λ h. IsFound h query finding.new before.new) }
     ensures small { result ≡ 7 → (length before.old < finding.new.count)
-        × IfSome engine.old.held.history (λ h. HasAugmentationCount h query finding.new) }
+        × IfSome engine.old.held.history (λ h. IsFindingWithoutList h query finding.new) }
     ensures kept { result ≢ 0 → before.new ≡ before.old }
     ensures rest { drop finding.new.count before.new ≡ drop finding.new.count before.old }
-    ensures unreported { result ≢ 0 → result ≢ 7 → finding.new ≡ finding.old }
+    ensures count_kept { result ≢ 0 → result ≢ 7 → finding.new ≡ finding.old }
 {
     let Some(mut inner) = take_engine(alloc, engine) else {
         return Status::Closed.number();
@@ -393,14 +393,14 @@ pub extern "C" fn esr_bundle(
 ) -> u32
     ensures status { IsAuditStatus result }
     ensures closed { result ≡ 14 ↔ (engine.old.held.history ≡ None) }
-    ensures refused { IfSome engine.old.held.history (λ h. (result ≡ 6) ↔ (is_committed_query h query ≡ false)) }
+    ensures not_committed_query { IfSome engine.old.held.history (λ h. (result ≡ 6) ↔ (is_committed_query h query ≡ false)) }
     ensures same { engine.new.held.history ≡ engine.old.held.history }
     ensures bundle { result ≡ 0 → IfSome engine.old.held.history (λ h. IsBundleIn h query count.new bytes.new) }
     ensures small { result ≡ 7 → (length bytes.old < count.new)
         × IfSome engine.old.held.history (λ h. IsBundleLong h query count.new) }
     ensures kept { result ≢ 0 → bytes.new ≡ bytes.old }
     ensures rest { drop count.new bytes.new ≡ drop count.new bytes.old }
-    ensures unreported { result ≢ 0 → result ≢ 7 → count.new ≡ count.old }
+    ensures count_kept { result ≢ 0 → result ≢ 7 → count.new ≡ count.old }
 {
     let Some(mut inner) = take_engine(alloc, engine) else {
         return Status::Closed.number();
@@ -434,7 +434,7 @@ pub extern "C" fn esr_history_script(
         × IfSome engine.old.held.history (λ h. IsTextLength (IsScriptOf h names.now) count.new) }
     ensures kept { result ≢ 0 → bytes.new ≡ bytes.old }
     ensures rest { drop count.new bytes.new ≡ drop count.new bytes.old }
-    ensures unreported { result ≢ 0 → result ≢ 7 → count.new ≡ count.old }
+    ensures count_kept { result ≢ 0 → result ≢ 7 → count.new ≡ count.old }
 {
     let Some(inner) = take_engine(alloc, engine) else {
         return Status::Closed.number();
@@ -462,7 +462,7 @@ pub extern "C" fn esr_explain(
 ) -> u32
     ensures status { IsQueryTextStatus result }
     ensures closed { result ≡ 14 ↔ (engine.old.held.history ≡ None) }
-    ensures refused { IfSome engine.old.held.history (λ h. (result ≡ 6) ↔ (is_committed_query h query ≡ false)) }
+    ensures not_committed_query { IfSome engine.old.held.history (λ h. (result ≡ 6) ↔ (is_committed_query h query ≡ false)) }
     ensures same { engine.new.held.history ≡ engine.old.held.history }
     ensures bad_names { result ≡ 5 → IfSome engine.old.held.history (λ h. parsed_item_names h names.now ≡ None) }
     ensures explanation { result ≡ 0 → IfSome engine.old.held.history
@@ -471,7 +471,7 @@ pub extern "C" fn esr_explain(
         × IfSome engine.old.held.history (λ h. IsTextLength (IsExplanationOf h query names.now) count.new) }
     ensures kept { result ≢ 0 → bytes.new ≡ bytes.old }
     ensures rest { drop count.new bytes.new ≡ drop count.new bytes.old }
-    ensures unreported { result ≢ 0 → result ≢ 7 → count.new ≡ count.old }
+    ensures count_kept { result ≢ 0 → result ≢ 7 → count.new ≡ count.old }
 {
     let Some(mut inner) = take_engine(alloc, engine) else {
         return Status::Closed.number();
@@ -493,7 +493,7 @@ pub extern "C" fn esr_picture(
 ) -> u32
     ensures status { IsQueryTextStatus result }
     ensures closed { result ≡ 14 ↔ (engine.old.held.history ≡ None) }
-    ensures refused { IfSome engine.old.held.history (λ h. (result ≡ 6) ↔ (is_committed_query h query ≡ false)) }
+    ensures not_committed_query { IfSome engine.old.held.history (λ h. (result ≡ 6) ↔ (is_committed_query h query ≡ false)) }
     ensures same { engine.new.held.history ≡ engine.old.held.history }
     ensures bad_names { result ≡ 5 → IfSome engine.old.held.history (λ h. parsed_item_names h names.now ≡ None) }
     ensures named { (result ≡ 0) ⊎ (result ≡ 7) → IfSome engine.old.held.history (λ h. HasNameForEachItem h names.now) }
@@ -501,7 +501,7 @@ pub extern "C" fn esr_picture(
     ensures small { result ≡ 7 → (length bytes.old < count.new) × IsTextLength IsSvg count.new }
     ensures kept { result ≢ 0 → bytes.new ≡ bytes.old }
     ensures rest { drop count.new bytes.new ≡ drop count.new bytes.old }
-    ensures unreported { result ≢ 0 → result ≢ 7 → count.new ≡ count.old }
+    ensures count_kept { result ≢ 0 → result ≢ 7 → count.new ≡ count.old }
 {
     let Some(mut inner) = take_engine(alloc, engine) else {
         return Status::Closed.number();
@@ -524,7 +524,7 @@ pub extern "C" fn esr_ledger(
     bytes: &mut [u8],
     count: &mut usize,
 ) -> u32
-    ensures status { IsValuesStatus result }
+    ensures status { IsBufferStatus result }
     ensures closed { result ≡ 14 ↔ (engine.old.held.history ≡ None) }
     ensures same { engine.new.held.history ≡ engine.old.held.history }
     ensures ledger { result ≡ 0 → IfSome engine.old.held.history
@@ -533,7 +533,7 @@ pub extern "C" fn esr_ledger(
         × IfSome engine.old.held.history (λ h. IsTextLength (IsLedgerOf h) count.new) }
     ensures kept { result ≢ 0 → bytes.new ≡ bytes.old }
     ensures rest { drop count.new bytes.new ≡ drop count.new bytes.old }
-    ensures unreported { result ≢ 0 → result ≢ 7 → count.new ≡ count.old }
+    ensures count_kept { result ≢ 0 → result ≢ 7 → count.new ≡ count.old }
 {
     let Some(inner) = take_engine(alloc, engine) else {
         return Status::Closed.number();
@@ -607,7 +607,7 @@ pub extern "C" fn esr_renew_carrying(
     txns: &mut [EsrCarried],
     count: &mut usize,
 ) -> u32
-    ensures status { IsValuesStatus result }
+    ensures status { IsBufferStatus result }
     ensures closed { result ≡ 14 ↔ (engine.old.held.history ≡ None) }
     ensures count { IfSome engine.old.held.history (λ h. count.new ≡ active_count (accepted_in h)) }
     ensures small { IfSome engine.old.held.history
@@ -618,7 +618,7 @@ pub extern "C" fn esr_renew_carrying(
     ensures carried { result ≡ 0 → IfSome engine.old.held.history IsCarriedRenewal }
     ensures err { result ≢ 0 → (engine.new.held.history ≡ engine.old.held.history) × (txns.new ≡ txns.old) }
     ensures rest { drop count.new txns.new ≡ drop count.new txns.old }
-    ensures unreported { result ≡ 14 → count.new ≡ count.old }
+    ensures count_kept { result ≡ 14 → count.new ≡ count.old }
 {
     let Some(mut inner) = take_engine(alloc, engine) else {
         return Status::Closed.number();

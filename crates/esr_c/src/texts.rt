@@ -14,7 +14,7 @@ ghost use Rattle.esr_c.specs.HistoryTexts.{HasNameForEachItem, IsExplanationOf, 
 
 use crate::audit::{find, hand_out};
 use crate::engine::Status;
-use crate::past::{items, transactions};
+use crate::past::{names_of_transactions, parse_item_names};
 use esr_audit::Finding;
 use esr_engine::EmbeddedEngine;
 use esr_explain::explanation;
@@ -54,13 +54,13 @@ fn explanation_text(
 ) -> Result<Vec<u8>, Status>
     ensures same { engine.new ≡ engine.old }
     ensures ok { IfOk result (λ text. IsExplanationOf engine.old query names.now text.items) }
-    ensures refused { IsErrOf result Status.NotACommittedQuery ↔ (is_committed_query engine.old query ≡ false) }
+    ensures not_committed_query { IsErrOf result Status.NotACommittedQuery ↔ (is_committed_query engine.old query ≡ false) }
     ensures bad_names { IsErrOf result Status.BadNames → parsed_item_names engine.old names.now ≡ None }
     ensures err { IfErr result (λ e. (e ≡ Status.NotACommittedQuery) ⊎ ((e ≡ Status.BadNames) ⊎ (e ≡ Status.NoMemory))) }
 {
     let found = find(alloc, engine, query)?;
-    let items = items(alloc, engine, names)?;
-    let transactions = transactions(alloc, engine)?;
+    let items = parse_item_names(alloc, engine, names)?;
+    let transactions = names_of_transactions(alloc, engine)?;
     match explain(alloc, &items, &transactions, engine, &found, query) {
         Ok(text) => Ok(text),
         Err(_) => Err(Status::NoMemory),
@@ -100,13 +100,13 @@ fn picture_text(
     ensures same { engine.new ≡ engine.old }
     ensures ok { IfOk result (λ text. IsSvg text.items) }
     ensures named { IfOk result (λ _. HasNameForEachItem engine.old names.now) }
-    ensures refused { IsErrOf result Status.NotACommittedQuery ↔ (is_committed_query engine.old query ≡ false) }
+    ensures not_committed_query { IsErrOf result Status.NotACommittedQuery ↔ (is_committed_query engine.old query ≡ false) }
     ensures bad_names { IsErrOf result Status.BadNames → parsed_item_names engine.old names.now ≡ None }
     ensures err { IfErr result (λ e. (e ≡ Status.NotACommittedQuery) ⊎ ((e ≡ Status.BadNames) ⊎ (e ≡ Status.NoMemory))) }
 {
     let found = find(alloc, engine, query)?;
-    let items = items(alloc, engine, names)?;
-    let transactions = transactions(alloc, engine)?;
+    let items = parse_item_names(alloc, engine, names)?;
+    let transactions = names_of_transactions(alloc, engine)?;
     match draw(alloc, &items, &transactions, engine.history(), &found) {
         Ok(text) => Ok(text),
         Err(_) => Err(Status::NoMemory),
@@ -124,7 +124,7 @@ pub(crate) fn show_explanation(
     ensures same { engine.new ≡ engine.old }
     ensures statuses { IsQueryTextStatus (status_number result) }
     ensures open { result ≢ Status.Closed }
-    ensures refused { (result ≡ Status.NotACommittedQuery) ↔ (is_committed_query engine.old query ≡ false) }
+    ensures not_committed_query { (result ≡ Status.NotACommittedQuery) ↔ (is_committed_query engine.old query ≡ false) }
     ensures bad_names { result ≡ Status.BadNames → parsed_item_names engine.old names.now ≡ None }
     ensures explanation { result ≡ Status.Done
         → IsTextInBuffer (IsExplanationOf engine.old query names.now) count.new bytes.new }
@@ -132,7 +132,7 @@ pub(crate) fn show_explanation(
         × IsTextLength (IsExplanationOf engine.old query names.now) count.new }
     ensures kept { result ≢ Status.Done → bytes.new ≡ bytes.old }
     ensures rest { drop count.new bytes.new ≡ drop count.new bytes.old }
-    ensures unreported { result ≢ Status.Done → result ≢ Status.TooSmall → count.new ≡ count.old }
+    ensures count_kept { result ≢ Status.Done → result ≢ Status.TooSmall → count.new ≡ count.old }
 {
     match explanation_text(alloc, engine, query, names) {
         Ok(text) => hand_out(bytes, count, &text),
@@ -151,14 +151,14 @@ pub(crate) fn show_picture(
     ensures same { engine.new ≡ engine.old }
     ensures statuses { IsQueryTextStatus (status_number result) }
     ensures open { result ≢ Status.Closed }
-    ensures refused { (result ≡ Status.NotACommittedQuery) ↔ (is_committed_query engine.old query ≡ false) }
+    ensures not_committed_query { (result ≡ Status.NotACommittedQuery) ↔ (is_committed_query engine.old query ≡ false) }
     ensures bad_names { result ≡ Status.BadNames → parsed_item_names engine.old names.now ≡ None }
     ensures named { (result ≡ Status.Done) ⊎ (result ≡ Status.TooSmall) → HasNameForEachItem engine.old names.now }
     ensures picture { result ≡ Status.Done → IsTextInBuffer IsSvg count.new bytes.new }
     ensures small { result ≡ Status.TooSmall → (length bytes.old < count.new) × IsTextLength IsSvg count.new }
     ensures kept { result ≢ Status.Done → bytes.new ≡ bytes.old }
     ensures rest { drop count.new bytes.new ≡ drop count.new bytes.old }
-    ensures unreported { result ≢ Status.Done → result ≢ Status.TooSmall → count.new ≡ count.old }
+    ensures count_kept { result ≢ Status.Done → result ≢ Status.TooSmall → count.new ≡ count.old }
 {
     match picture_text(alloc, engine, query, names) {
         Ok(text) => hand_out(bytes, count, &text),

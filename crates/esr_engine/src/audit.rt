@@ -22,7 +22,7 @@ impl EmbeddedEngine {
         ensures same { self.new ≡ self.old }
         ensures query { IfOk result (λ f. f.query ≡ q) }
         ensures finding { IfOk result (IsFindingOf weighted self.old q.0) }
-        ensures refused { IsErrOf result AuditError.NotACommittedQuery
+        ensures not_committed_query { IsErrOf result AuditError.NotACommittedQuery
             ↔ (is_committed_query self.old q.0 ≡ false) }
     {
         if self.index.extend(self.machine.history()).is_err() {

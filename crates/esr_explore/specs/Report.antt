@@ -20,8 +20,8 @@ abbrev pub total_text : Option ℕ → List ℕ
 total_text (Some count) = count_text (codes " of ") count
 total_text None = codes " of more than 1000000000000000000"
 
-abbrev pub head_line : (runs : ℕ) → (total : Option ℕ) → List ℕ
-head_line runs total = count_text (codes "interleavings ") runs ++ total_text total ++ codes "\n"
+abbrev pub heading : (runs : ℕ) → (total : Option ℕ) → List ℕ
+heading runs total = count_text (codes "interleavings ") runs ++ total_text total ++ codes "\n"
 
 -- the number of times that the lines of a block were blocked, and the number of runs in which one was given up
 abbrev pub block_line : List RunSummary → ℕ → List ℕ
@@ -39,5 +39,5 @@ query_line summaries p =
 -- the whole
 abbrev pub report_text : (total : Option ℕ) → (blocks : ℕ) → List BegunQuery → List RunSummary → List ℕ
 report_text total blocks queries summaries =
-    head_line (length summaries) total ++ flat_map (block_line summaries) (range_with_len 0 blocks)
+    heading (length summaries) total ++ flat_map (block_line summaries) (range_with_len 0 blocks)
     ++ flat_map (query_line summaries) (enumerate_from 0 queries)

@@ -10,7 +10,7 @@ use Rattle.esr_plan.specs.declared.call.BeginKind.TheVariants as kind
 use Rattle.esr_explore.specs.declared.measure.Measure.TheVariants.{Import}
 use Rattle.esr_explore.specs.Columns.{median}
 use Rattle.esr_explore.specs.Queries.{all_queries, begun_at}
-use Rattle.esr_explore.specs.Report.{head_line, max_and_median_text}
+use Rattle.esr_explore.specs.Report.{heading, max_and_median_text}
 use Rattle.esr_explore.specs.Severity.{amount_of, first_greatest}
 use Rattle.esr_explore.specs.Summaries.{given_up_in}
 
@@ -53,13 +53,13 @@ lines_given_up : given_up_in (record {
 }) ≡ 1
 lines_given_up = refl
 
-head_of_many : head_line 20 (Some 61108047000) ≡ codes "interleavings 20 of 61108047000\n"
+heading_with_total : heading 20 (Some 61108047000) ≡ codes "interleavings 20 of 61108047000\n"
 unfolding digits
-head_of_many = refl
+heading_with_total = refl
 
-head_of_more : head_line 7 None ≡ codes "interleavings 7 of more than 1000000000000000000\n"
+heading_without_total : heading 7 None ≡ codes "interleavings 7 of more than 1000000000000000000\n"
 unfolding digits
-head_of_more = refl
+heading_without_total = refl
 
 max_and_median_of_four : max_and_median_text (codes " blocked") (5 ∷ 1 ∷ 9 ∷ 3 ∷ []) ≡ codes " blocked max 9 median 3"
 unfolding digits

@@ -3,7 +3,7 @@
 ghost use Rattle.std.specs.Prelude.{◌≡◌, ◌++◌, OnOk, flat_map, map};
 ghost use Rattle.std.specs.List.{enumerate_from, range_with_len};
 ghost use Rattle.esr_explore.specs.Queries.{begun_query};
-ghost use Rattle.esr_explore.specs.Report.{block_line, count_text, head_line, query_line, max_and_median_text, total_text};
+ghost use Rattle.esr_explore.specs.Report.{block_line, count_text, heading, query_line, max_and_median_text, total_text};
 
 use crate::query::Query;
 use crate::run_summary::RunSummary;
@@ -50,7 +50,7 @@ fn push_total(out: &mut Vec<u8>, total: Option<u64>) -> Result<(), AllocError>
 
 /// Appends the first line: how many runs there were, and how many interleavings there are.
 pub fn push_head(out: &mut Vec<u8>, runs: u64, total: Option<u64>) -> Result<(), AllocError>
-    ensures { OnOk result (out.new.items ≡ out.old.items ++ head_line runs total) }
+    ensures { OnOk result (out.new.items ≡ out.old.items ++ heading runs total) }
 {
     push_count(out, "interleavings ", runs)?;
     push_total(out, total)?;

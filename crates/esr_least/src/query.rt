@@ -95,7 +95,7 @@ pub fn summarize_by_index<M: Metric>(
     requires { IsWholeIndexOf history.now.schedule.entries index.now }
     ensures summary { IfOk result (λ a. audited a ≡ summary_of M.distance_by history.now.schedule q.0) }
     ensures committed { IfOk result (λ a. is_committed_query history.now.schedule q.0 ≡ true) }
-    ensures refused { IsErrOf result AuditError.NotACommittedQuery
+    ensures not_committed_query { IsErrOf result AuditError.NotACommittedQuery
         ↔ (is_committed_query history.now.schedule q.0 ≡ false) }
     ensures no_worker_error { ¬ IsErrOf result AuditError.WorkersOutOfRange }
     ensures stable { IfOk result (IsAuditFrom M.distance_by history.now.schedule) }

@@ -10,7 +10,8 @@ use Rattle.esr_order.specs.Placements.{is_among, IsClosed}
 use Rattle.esr_order.specs.Chains.{Chain, some_chain, update_at, chain_of, nth, chain_among}
 use Rattle.esr_order.specs.ConflictPairs.{IsLexLess}
 
--- an order as contracts see it
+-- an order as contracts see it: its updates in commit order; pairs of positions of conflicting updates, the earlier first; the
+-- positions of the updates that the query must see; and for each item the updates that wrote it
 pub record ConflictOrder : Type 0 where
   pub commits : List TxnId
   pub before : List (ℕ × ℕ)

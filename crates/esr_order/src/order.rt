@@ -57,9 +57,13 @@ impl From<AllocError> for OrderError {
 /// versions of the items that they leave. Updates are identified by their positions in commit order, which is a serial order of them.
 #[derive(Drop)]
 pub struct Order {
+    /// These updates in commit order.
     commits: Vec<TxnId>,
+    /// Pairs of positions of conflicting updates, the earlier first.
     before: Vec<(u32, u32)>,
+    /// The positions of the updates that the query must see.
     must: Vec<u32>,
+    /// For each item, the updates that wrote it.
     chains: Vec<Links>,
 }
 
@@ -126,7 +130,7 @@ fn relevant_with<M: Metric>(
     requires rows { AreRowsOf history.now.schedule.entries rows.now }
     ensures relevant { IfOk result (λ o. AreRelevant history.now.schedule q.0 (map (λ t. t.0) o.commits)) }
     ensures ok { IfOk result (λ o. IsConflictOrderOn history.now.schedule q.0 (map (λ t. t.0) o.commits) o) }
-    ensures refused { IsErrOf result OrderError.NotACommittedQuery
+    ensures not_committed_query { IsErrOf result OrderError.NotACommittedQuery
         ↔ (is_committed_query history.now.schedule q.0 ≡ false) }
 {
     let _invariant = history.log(); // brings the invariant into the proof
@@ -152,7 +156,7 @@ impl Order {
     pub fn of<M: Metric>(alloc: Global, history: &History<M>, q: TxnId) -> Result<Order, OrderError>
         ensures ok { IfOk result (λ o. IsConflictOrder history.now.schedule q.0 o) }
         ensures sparse { IfOk result (λ o. length o.before ≤ 2 * length (operations_of history.now.schedule q.0)) }
-        ensures refused { IsErrOf result OrderError.NotACommittedQuery
+        ensures not_committed_query { IsErrOf result OrderError.NotACommittedQuery
             ↔ (is_committed_query history.now.schedule q.0 ≡ false) }
     {
         let _invariant = history.log(); // brings the invariant into the proof
@@ -176,7 +180,7 @@ impl Order {
     ) -> Result<Order, OrderError>
         ensures relevant { IfOk result (λ o. AreRelevant history.now.schedule q.0 (map (λ t. t.0) o.commits)) }
         ensures ok { IfOk result (λ o. IsConflictOrderOn history.now.schedule q.0 (map (λ t. t.0) o.commits) o) }
-        ensures refused { IsErrOf result OrderError.NotACommittedQuery
+        ensures not_committed_query { IsErrOf result OrderError.NotACommittedQuery
             ↔ (is_committed_query history.now.schedule q.0 ≡ false) }
     {
         if !is_committed_query(history, q) {
@@ -197,7 +201,7 @@ impl Order {
         requires { map (λ t. t.0) committed.now ≡ commit_order (accepted_in history.now.schedule) }
         ensures relevant { IfOk result (λ o. AreRelevant history.now.schedule q.0 (map (λ t. t.0) o.commits)) }
         ensures ok { IfOk result (λ o. IsConflictOrderOn history.now.schedule q.0 (map (λ t. t.0) o.commits) o) }
-        ensures refused { IsErrOf result OrderError.NotACommittedQuery
+        ensures not_committed_query { IsErrOf result OrderError.NotACommittedQuery
             ↔ (is_committed_query history.now.schedule q.0 ≡ false) }
     {
         relevant_with(alloc, history, committed, &AccessRows::new(alloc), q)
@@ -214,7 +218,7 @@ impl Order {
         requires { IsWholeIndexOf history.now.schedule.entries index.now }
         ensures relevant { IfOk result (λ o. AreRelevant history.now.schedule q.0 (map (λ t. t.0) o.commits)) }
         ensures ok { IfOk result (λ o. IsConflictOrderOn history.now.schedule q.0 (map (λ t. t.0) o.commits) o) }
-        ensures refused { IsErrOf result OrderError.NotACommittedQuery
+        ensures not_committed_query { IsErrOf result OrderError.NotACommittedQuery
             ↔ (is_committed_query history.now.schedule q.0 ≡ false) }
     {
         relevant_with(alloc, history, index.commits(), index.rows(), q)

@@ -6,7 +6,7 @@ use Rattle.std.proofs.lemmas.Bool.Decides.{nat_tests}
 use Rattle.std.proofs.lemmas.Option.{cond_some}
 use Rattle.std.proofs.lemmas.Bool.{cases_Bool}
 use Rattle.std.specs.Io.KnownBytes.{Consumes}
-use Rattle.esr_plan.specs.Plan.{cut_fault, plan_of, plan_from, nothing, DriveFault, TooManyLines, LineTooLong}
+use Rattle.esr_plan.specs.Plan.{line_limit_fault, plan_of, plan_from, nothing, DriveFault, TooManyLines, LineTooLong}
 use Rattle.esr_plan.specs.Readings.{IsLineFault, IsReadFault}
 use Rattle.esr_plan.specs.declared.fault.DriveFault.TheVariants as fault
 use Rattle.std.specs.List.{position, position_or_len}
@@ -42,18 +42,18 @@ is_not a b h = grind (arith, nat_tests)
 
 -- a line that may be read
 pub cut_more : (count : ℕ) (ls more : List (List ℕ)) (line : List ℕ) → ls ≡ line ∷ more → (count ≡ 2000000 → ⊥) → length line ≤ 200
-    → cut_fault count ls ≡ cut_fault (count + 1) more
+    → line_limit_fault count ls ≡ line_limit_fault (count + 1) more
 cut_more count ls more line is count_within_max short =
-    ap (cut_fault count) is ∙ rw (is_not count 2000000 count_within_max, le_ltb 200 (length line) short) refl
+    ap (line_limit_fault count) is ∙ rw (is_not count 2000000 count_within_max, le_ltb 200 (length line) short) refl
 
 -- a line too many
-pub cut_too_many : (count : ℕ) (ls more : List (List ℕ)) (line : List ℕ) → ls ≡ line ∷ more → count ≡ 2000000 → cut_fault count ls ≡ Some TooManyLines
-cut_too_many count ls more line is all = ap (λ n. cut_fault n ls) all ∙ ap (cut_fault 2000000) is
+pub cut_too_many : (count : ℕ) (ls more : List (List ℕ)) (line : List ℕ) → ls ≡ line ∷ more → count ≡ 2000000 → line_limit_fault count ls ≡ Some TooManyLines
+cut_too_many count ls more line is all = ap (λ n. line_limit_fault n ls) all ∙ ap (line_limit_fault 2000000) is
 
 -- a line that is too long
-pub cut_long : (count : ℕ) (ls more : List (List ℕ)) (line : List ℕ) → ls ≡ line ∷ more → (count ≡ 2000000 → ⊥) → 200 < length line → cut_fault count ls ≡ Some LineTooLong
+pub cut_long : (count : ℕ) (ls more : List (List ℕ)) (line : List ℕ) → ls ≡ line ∷ more → (count ≡ 2000000 → ⊥) → 200 < length line → line_limit_fault count ls ≡ Some LineTooLong
 cut_long count ls more line is count_within_max long =
-    ap (cut_fault count) is ∙ rw (is_not count 2000000 count_within_max, lt_ltb 200 (length line) long) refl
+    ap (line_limit_fault count) is ∙ rw (is_not count 2000000 count_within_max, lt_ltb 200 (length line) long) refl
 
 pub some : (n : ℕ) → nat_eq n 0 ≡ false → 0 < n
 some n h = grind (arith, nat_tests)
@@ -67,7 +67,7 @@ shorter bytes place e =
 -- ---- a file that is being read
 
 abbrev At : List ℕ → ℕ → ℕ → Type 0
-At bytes start count = (rest : List ℕ) → cut_fault 0 (lines (bytes ++ rest)) ≡ cut_fault count (lines (drop start bytes ++ rest))
+At bytes start count = (rest : List ℕ) → line_limit_fault 0 (lines (bytes ++ rest)) ≡ line_limit_fault count (lines (drop start bytes ++ rest))
 
 -- the bytes of a slice from a place on
 pub from_place : (bytes : List ℕ) (start : ℕ) → take (length bytes - start) (drop start bytes) ≡ drop start bytes
@@ -76,8 +76,8 @@ from_place bytes start = ap (λ n. take n (drop start bytes)) (sym (length-drop 
 -- more bytes
 pub mark_more : (bytes more : List ℕ) (start count : ℕ) → start ≤ length bytes → At bytes start count → At (bytes ++ more) start count
 mark_more bytes more start count le at rest =
-    ap (λ l. cut_fault 0 (lines l)) (append_assoc bytes more rest)
-    ∙ (at (more ++ rest) ∙ ap (λ l. cut_fault count (lines l)) (sym (append_assoc (drop start bytes) more rest) ∙ ap (λ l. l ++ rest) (sym (drop-append-le start bytes more le))))
+    ap (λ l. line_limit_fault 0 (lines l)) (append_assoc bytes more rest)
+    ∙ (at (more ++ rest) ∙ ap (λ l. line_limit_fault count (lines l)) (sym (append_assoc (drop start bytes) more rest) ∙ ap (λ l. l ++ rest) (sym (drop-append-le start bytes more le))))
 
 -- one more line
 pub mark_line : (bytes : List ℕ) (start count len : ℕ) → At bytes start count → position (λ b. nat_eq b 10) (drop start bytes) ≡ Some len
@@ -92,17 +92,17 @@ mark_line bytes start count len at found count_within_max short rest =
     ∙ (ap lines (append_assoc (front tail) (10 ∷ after_front tail) rest) ∙ lines-line (front tail) (after_front tail ++ rest) (plain-front tail)) in
     let following : after_front tail ≡ drop (start + len + 1) bytes =
     ap (λ n. drop (n + 1) tail) is.1 ∙ (drop-drop (len + 1) start bytes ∙ ap (λ n. drop n bytes) (omega arith)) in
-    at rest ∙ (cut_more count (lines (tail ++ rest)) (lines (after_front tail ++ rest)) (front tail) cut count_within_max size ∙ ap (λ l. cut_fault (count + 1) (lines (l ++ rest))) following)
+    at rest ∙ (cut_more count (lines (tail ++ rest)) (lines (after_front tail ++ rest)) (front tail) cut count_within_max size ∙ ap (λ l. line_limit_fault (count + 1) (lines (l ++ rest))) following)
 
 -- a line with a fault, whatever follows
 pub mark_fault : (bytes : List ℕ) (start count len : ℕ) (e : DriveFault) → At bytes start count → 0 < length (drop start bytes) → len ≡ line_len (drop start bytes)
-    → IsLineFault count len e → (rest : List ℕ) → cut_fault 0 (lines (bytes ++ rest)) ≡ Some e
+    → IsLineFault count len e → (rest : List ℕ) → line_limit_fault 0 (lines (bytes ++ rest)) ≡ Some e
 mark_fault bytes start count len e at some is bad rest = at rest ∙ by e bad
   where
     b : Begins (drop start bytes) rest
     b = begins (drop start bytes) rest some
 
-    by : (e : DriveFault) → IsLineFault count len e → cut_fault count (lines (drop start bytes ++ rest)) ≡ Some e
+    by : (e : DriveFault) → IsLineFault count len e → line_limit_fault count (lines (drop start bytes ++ rest)) ≡ Some e
     by fault.TooManyLines bad = cut_too_many count (lines (drop start bytes ++ rest)) b.more b.line b.is bad
     by fault.LineTooLong bad = cut_long count (lines (drop start bytes ++ rest)) b.more b.line b.is bad.0 (omega (arith, bad.1, is, b.long))
     by fault.Read bad = absurd bad
@@ -114,25 +114,25 @@ mark_fault bytes start count len e at some is bad rest = at rest ∙ by e bad
 
 -- a last line that is not whole
 pub last_fine : (tail : List ℕ) (count : ℕ) → position (λ b. nat_eq b 10) tail ≡ None → (count ≡ 2000000 → ⊥) → length tail ≤ 200
-    → cut_fault count (lines tail) ≡ None
+    → line_limit_fault count (lines tail) ≡ None
 last_fine [] count none count_within_max short = refl
 last_fine (b ∷ bs) count none count_within_max short =
     cut_more count (lines (b ∷ bs)) [] (b ∷ bs) (no_feed (b ∷ bs) none (omega arith)) count_within_max short
 
 -- the whole file
-pub whole_fine : (bytes : List ℕ) (start count : ℕ) → At bytes start count → cut_fault count (lines (drop start bytes)) ≡ None → cut_fault 0 (lines bytes) ≡ None
+pub whole_fine : (bytes : List ℕ) (start count : ℕ) → At bytes start count → line_limit_fault count (lines (drop start bytes)) ≡ None → line_limit_fault 0 (lines bytes) ≡ None
 whole_fine bytes start count at fine =
-    ap (λ l. cut_fault 0 (lines l)) (sym (append-nil bytes)) ∙ (at [] ∙ (ap (λ l. cut_fault count (lines l)) (append-nil (drop start bytes)) ∙ fine))
+    ap (λ l. line_limit_fault 0 (lines l)) (sym (append-nil bytes)) ∙ (at [] ∙ (ap (λ l. line_limit_fault count (lines l)) (append-nil (drop start bytes)) ∙ fine))
 
 -- no line too many
-pub bounded_lines : (count : ℕ) (ls : List (List ℕ)) → count ≤ 2000000 → cut_fault count ls ≡ None → count + length ls ≤ 2000000
+pub bounded_lines : (count : ℕ) (ls : List (List ℕ)) → count ≤ 2000000 → line_limit_fault count ls ≡ None → count + length ls ≤ 2000000
 bounded_lines count [] le none = omega (arith, le)
 bounded_lines count (l ∷ ls) le none = elim (cases_Bool (nat_eq count 2000000)) [
-  | inl t ↦ let many : cut_fault count (l ∷ ls) ≡ Some TooManyLines = rw t refl in let both : Some TooManyLines ≡ None = sym many ∙ none in cc
+  | inl t ↦ let many : line_limit_fault count (l ∷ ls) ≡ Some TooManyLines = rw t refl in let both : Some TooManyLines ≡ None = sym many ∙ none in cc
   | inr f ↦ elim (cases_Bool (nat_lt 200 (length l))) [
-    | inl t ↦ let long : cut_fault count (l ∷ ls) ≡ Some LineTooLong = rw (f, t) refl in let both : Some LineTooLong ≡ None = sym long ∙ none in cc
+    | inl t ↦ let long : line_limit_fault count (l ∷ ls) ≡ Some LineTooLong = rw (f, t) refl in let both : Some LineTooLong ≡ None = sym long ∙ none in cc
     | inr g ↦
-        let on : cut_fault count (l ∷ ls) ≡ cut_fault (count + 1) ls = rw (f, g) refl in
+        let on : line_limit_fault count (l ∷ ls) ≡ line_limit_fault (count + 1) ls = rw (f, g) refl in
         let apart : count ≡ 2000000 → ⊥ = λ is. not_equal count f is in
         let rest = bounded_lines (count + 1) ls (below count le apart) (sym on ∙ none) in
         omega (arith, rest)
@@ -146,7 +146,7 @@ bounded_lines count (l ∷ ls) le none = elim (cases_Bool (nat_eq count 2000000)
     below n le apart = omega (arith, le, apart)
 
 -- the plan of a file with such a line
-pub cut_plan : (bytes : List ℕ) (e : DriveFault) → cut_fault 0 (lines bytes) ≡ Some e → plan_of bytes ≡ Err e
+pub cut_plan : (bytes : List ℕ) (e : DriveFault) → line_limit_fault 0 (lines bytes) ≡ Some e → plan_of bytes ≡ Err e
 cut_plan bytes e is = ap (λ (o : Option DriveFault). elim o [ Some f ↦ Err f | None ↦ plan_from 1 nothing (lines bytes) ]) is
 
 -- ---- the steps of a look
@@ -161,7 +161,7 @@ found_in : (bytes : List ℕ) (start : ℕ) (o : Option ℕ) → o ≡ feed (sli
 found_in bytes start o is = ap feed (sym (from_place bytes start)) ∙ sym is
 
 pub line_fault : (bytes : List ℕ) (start count len : ℕ) (e : DriveFault) → At bytes start count → Some len ≡ feed (sliced bytes start) → IsLineFault count len e
-    → (rest : List ℕ) → cut_fault 0 (lines (bytes ++ rest)) ≡ Some e
+    → (rest : List ℕ) → line_limit_fault 0 (lines (bytes ++ rest)) ≡ Some e
 line_fault bytes start count len e at is bad =
     let found = found_in bytes start (Some len) is in
     let place = cond_some _ _ _ found in
@@ -183,14 +183,14 @@ line_next bytes start count len low le at is count_within_max short =
     one_above n le count_within_max = omega (arith, le, count_within_max)
 
 pub begun_fault : (bytes : List ℕ) (start count : ℕ) (e : DriveFault) → At bytes start count → None ≡ feed (sliced bytes start) → 0 < length bytes - start
-    → IsLineFault count (length bytes - start) e → (rest : List ℕ) → cut_fault 0 (lines (bytes ++ rest)) ≡ Some e
+    → IsLineFault count (length bytes - start) e → (rest : List ℕ) → line_limit_fault 0 (lines (bytes ++ rest)) ≡ Some e
 begun_fault bytes start count e at is some bad =
     let len = length-drop start bytes in
     let all = none_is_length (drop start bytes) (found_in bytes start None is) in
     mark_fault bytes start count (length bytes - start) e at (omega (arith, some, len)) (omega (arith, len, all)) bad
 
 pub begun_fine : (bytes : List ℕ) (start count : ℕ) → None ≡ feed (sliced bytes start) → (count ≡ 2000000 → ⊥) → length bytes - start ≤ 200
-    → cut_fault count (lines (drop start bytes)) ≡ None
+    → line_limit_fault count (lines (drop start bytes)) ≡ None
 begun_fine bytes start count is count_within_max short = last_fine (drop start bytes) count (found_in bytes start None is) count_within_max (omega (arith, short, length-drop start bytes))
 
 -- ---- the faults of reading
@@ -208,12 +208,12 @@ chosen_cut : (b : Bool) (e : DriveFault) (o : Option DriveFault) → IsCut e →
 chosen_cut true e o p q = p
 chosen_cut false e o p q = q
 
-pub all_cut : (count : ℕ) (ls : List (List ℕ)) → IsNoneOrCut (cut_fault count ls)
+pub all_cut : (count : ℕ) (ls : List (List ℕ)) → IsNoneOrCut (line_limit_fault count ls)
 all_cut count [] = tt
 all_cut count (l ∷ ls) =
     chosen_cut (nat_eq count 2000000) fault.TooManyLines _ tt (chosen_cut (nat_lt 200 (length l)) fault.LineTooLong _ tt (all_cut (count + 1) ls))
 
-is_cut : (bytes : List ℕ) (e : DriveFault) → cut_fault 0 (lines bytes) ≡ Some e → IsCut e
+is_cut : (bytes : List ℕ) (e : DriveFault) → line_limit_fault 0 (lines bytes) ≡ Some e → IsCut e
 is_cut bytes e is = subst (λ (o : Option DriveFault). IsNoneOrCut o) is (all_cut 0 (lines bytes))
 
 by_fault : (known : Option (List ℕ)) (e : DriveFault) → IsCut e → IfSome known (λ input. plan_of input ≡ Err e) → IsReadFault known e
@@ -221,17 +221,17 @@ by_fault known fault.LineTooLong c p = p
 by_fault known fault.TooManyLines c p = p
 by_fault known _ c p = absurd c
 
-planned : (known left : Option (List ℕ)) (bytes : List ℕ) (e : DriveFault) → Consumes known left bytes → ((rest : List ℕ) → cut_fault 0 (lines (bytes ++ rest)) ≡ Some e)
+planned : (known left : Option (List ℕ)) (bytes : List ℕ) (e : DriveFault) → Consumes known left bytes → ((rest : List ℕ) → line_limit_fault 0 (lines (bytes ++ rest)) ≡ Some e)
     → IfSome known (λ input. plan_of input ≡ Err e)
 planned None left bytes e took cut = tt
 planned (Some input) None bytes e took cut = absurd took
-planned (Some input) (Some rest) bytes e took cut = cut_plan input e (ap (λ l. cut_fault 0 (lines l)) took ∙ cut rest)
+planned (Some input) (Some rest) bytes e took cut = cut_plan input e (ap (λ l. line_limit_fault 0 (lines l)) took ∙ cut rest)
 
-pub read_fault : (known left : Option (List ℕ)) (bytes : List ℕ) (e : DriveFault) → Consumes known left bytes → ((rest : List ℕ) → cut_fault 0 (lines (bytes ++ rest)) ≡ Some e)
+pub read_fault : (known left : Option (List ℕ)) (bytes : List ℕ) (e : DriveFault) → Consumes known left bytes → ((rest : List ℕ) → line_limit_fault 0 (lines (bytes ++ rest)) ≡ Some e)
     → IsReadFault known e
 read_fault known left bytes e took cut = by_fault known e (is_cut (bytes ++ []) e (cut [])) (planned known left bytes e took cut)
 
-pub not_read : (bytes : List ℕ) (e : DriveFault) → ((rest : List ℕ) → cut_fault 0 (lines (bytes ++ rest)) ≡ Some e) → e ≡ fault.Read → ⊥
+pub not_read : (bytes : List ℕ) (e : DriveFault) → ((rest : List ℕ) → line_limit_fault 0 (lines (bytes ++ rest)) ≡ Some e) → e ≡ fault.Read → ⊥
 not_read bytes e cut is = subst (λ (f : DriveFault). IsCut f) is (is_cut (bytes ++ []) e (cut []))
 
 pub mark_grown : (bytes grown more : List ℕ) (start count : ℕ) → grown ≡ bytes ++ more → start ≤ length bytes → count ≤ 2000000 → At bytes start count
@@ -253,5 +253,5 @@ same_error : {T : Type 0} (r : Result T DriveFault) (e f : DriveFault) → r ≡
 same_error (Ok x) e f a b = cc
 same_error (Err g) e f a b = cc
 
-pub not_read_error : {T : Type 0} (r : Result T DriveFault) (bytes : List ℕ) (e : DriveFault) → ((rest : List ℕ) → cut_fault 0 (lines (bytes ++ rest)) ≡ Some e) → r ≡ Err e → r ≡ Err fault.Read → ⊥
+pub not_read_error : {T : Type 0} (r : Result T DriveFault) (bytes : List ℕ) (e : DriveFault) → ((rest : List ℕ) → line_limit_fault 0 (lines (bytes ++ rest)) ≡ Some e) → r ≡ Err e → r ≡ Err fault.Read → ⊥
 not_read_error r bytes e cut is other = not_read bytes e cut (same_error r e fault.Read is other)

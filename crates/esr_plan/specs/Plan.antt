@@ -106,18 +106,18 @@ plan_from number p (line ∷ more) =
       | Err error ↦ Err (BadScript number error)
     ]
 
--- the first line that ends the reading, after `count` lines
-abbrev pub cut_fault : ℕ → List (List ℕ) → Option DriveFault
-cut_fault count [] = None
-cut_fault count (line ∷ more) =
+-- the fault of the first line that is too long or one too many, after `count` lines
+abbrev pub line_limit_fault : ℕ → List (List ℕ) → Option DriveFault
+line_limit_fault count [] = None
+line_limit_fault count (line ∷ more) =
     if nat_eq count MAX_LINES then Some TooManyLines
     else if nat_lt MAX_LINE_BYTES (length line) then Some LineTooLong
-    else cut_fault (count + 1) more
+    else line_limit_fault (count + 1) more
 
 -- the plan of a file
 abbrev pub plan_of : List ℕ → Result Plan DriveFault
 plan_of bytes =
-    elim (cut_fault 0 (lines bytes)) [
+    elim (line_limit_fault 0 (lines bytes)) [
       | Some fault ↦ Err fault
       | None ↦ plan_from 1 nothing (lines bytes)
     ]

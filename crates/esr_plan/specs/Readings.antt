@@ -2,7 +2,7 @@
 use Rattle.std.specs.Prelude.{◌≡◌, ℕ, ◌<◌, ◌≤◌, List, ◌++◌, Option, Err, IfSome, length, drop}
 use Rattle.esr_grammar.specs.declared.limits.TheConstants.{MAX_LINES, MAX_LINE_BYTES}
 use Rattle.esr_grammar.specs.Lines.{lines}
-use Rattle.esr_plan.specs.Plan.{cut_fault, plan_of, DriveFault}
+use Rattle.esr_plan.specs.Plan.{line_limit_fault, plan_of, DriveFault}
 use Rattle.esr_plan.specs.declared.reader.Mark.{Mark}
 use Rattle.esr_plan.specs.declared.fault.DriveFault.TheVariants as fault
 
@@ -15,7 +15,7 @@ abbrev pub IsMark : List ℕ → Mark → Type 0
 IsMark bytes m =
     (m.start ≤ length bytes)
     × (m.lines ≤ MAX_LINES)
-    × ((rest : List ℕ) → cut_fault 0 (lines (bytes ++ rest)) ≡ cut_fault m.lines (lines (rest_from bytes m ++ rest)))
+    × ((rest : List ℕ) → line_limit_fault 0 (lines (bytes ++ rest)) ≡ line_limit_fault m.lines (lines (rest_from bytes m ++ rest)))
 
 -- the fault of a line of `len` bytes, after `count` lines
 abbrev pub IsLineFault : ℕ → ℕ → DriveFault → Type 0

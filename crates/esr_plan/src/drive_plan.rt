@@ -2,7 +2,7 @@
 
 ghost use Rattle.std.specs.Prelude.{◌≡◌, ◌⊎◌, None, Ok, Err, IfOk, IfErr};
 ghost use Rattle.esr_grammar.specs.Lines.{lines};
-ghost use Rattle.esr_plan.specs.Plan.{plan_of, cut_fault};
+ghost use Rattle.esr_plan.specs.Plan.{plan_of, line_limit_fault};
 ghost use Rattle.esr_plan.specs.Drafts as drafts;
 ghost use Rattle.esr_plan.specs.DrivePlans.{plan_in, IsSound};
 
@@ -57,7 +57,7 @@ pub fn drive_plan_of<'a>(
     bytes: &'a [u8],
     hash_seed: u64,
 ) -> Result<DrivePlan<'a>, DriveFault>
-    requires { cut_fault 0 (lines bytes.now) ≡ None }
+    requires { line_limit_fault 0 (lines bytes.now) ≡ None }
     ensures plan { IfOk result (λ s. plan_of bytes.entry.now ≡ Ok (plan_in s)) }
     ensures sound { IfOk result IsSound }
     ensures err { IfErr result (λ e. (e ≡ DriveFault.NoMemory) ⊎ (plan_of bytes.entry.now ≡ Err e)) }

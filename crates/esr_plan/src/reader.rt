@@ -6,7 +6,7 @@ ghost use Rattle.std.specs.Prelude.{◌≡◌, ℕ, List, false, ◌<◌, ◌≤
 ghost use Rattle.std.specs.Io.KnownBytes.{Consumes, IsAtEnd};
 ghost use Rattle.esr_base.specs.Watch.{inner, failed};
 ghost use Rattle.esr_grammar.specs.Lines.{lines};
-ghost use Rattle.esr_plan.specs.Plan.{cut_fault};
+ghost use Rattle.esr_plan.specs.Plan.{line_limit_fault};
 ghost use Rattle.esr_plan.specs.Readings.{IsMark, IsLineFault, IsReadFault, rest_from};
 
 use crate::fault::DriveFault;
@@ -32,7 +32,7 @@ pub fn first_line(bytes: &[u8]) -> Option<(&[u8], &[u8])>
     }
     match find_line_feed(bytes) {
         None => Some((bytes, &[])),
-        Some(place) => Some((&bytes[..place], &bytes[place + 1..])),
+        Some(end) => Some((&bytes[..end], &bytes[end + 1..])),
     }
 }
 
@@ -61,8 +61,8 @@ fn check_line(lines: u64, bytes: usize) -> Result<(), DriveFault>
 fn check_lines(bytes: &[u8], mark: Mark) -> Result<Mark, DriveFault>
     requires { IsMark bytes.now mark }
     ensures mark { IfOk result (IsMark bytes.now) }
-    ensures fine { IfOk result (λ m. cut_fault m.lines (lines (rest_from bytes.now m)) ≡ None) }
-    ensures err { IfErr result (λ e. (rest : List ℕ) → cut_fault 0 (lines (bytes.now ++ rest)) ≡ Some e) }
+    ensures fine { IfOk result (λ m. line_limit_fault m.lines (lines (rest_from bytes.now m)) ≡ None) }
+    ensures err { IfErr result (λ e. (rest : List ℕ) → line_limit_fault 0 (lines (bytes.now ++ rest)) ≡ Some e) }
 {
     let mut mark = mark;
     while let Some(len) = find_line_feed(&bytes[mark.start..]) {
@@ -74,9 +74,9 @@ fn check_lines(bytes: &[u8], mark: Mark) -> Result<Mark, DriveFault>
             lines: mark.lines + 1,
         };
     }
-    let begun = bytes.len() - mark.start;
-    if begun > 0 {
-        if let Err(fault) = check_line(mark.lines, begun) {
+    let partial_len = bytes.len() - mark.start;
+    if partial_len > 0 {
+        if let Err(fault) = check_line(mark.lines, partial_len) {
             return Err(fault);
         }
     }
@@ -97,7 +97,7 @@ pub fn read_all<R: Read>(alloc: Global, reader: &mut Watched<R>) -> Result<Vec<u
     ensures ok { IfOk result (λ bytes. Consumes (R.remaining (inner reader.old))
         (R.remaining (inner reader.new)) bytes.items) }
     ensures end { IfOk result (λ bytes. IsAtEnd (R.remaining (inner reader.new))) }
-    ensures fine { IfOk result (λ bytes. cut_fault 0 (lines bytes.items) ≡ None) }
+    ensures fine { IfOk result (λ bytes. line_limit_fault 0 (lines bytes.items) ≡ None) }
     ensures faults { IfErr result (IsReadFault (R.remaining (inner reader.old))) }
     ensures failed { IsTrue (failed reader.new) ↔ IsErrOf result DriveFault.Read }
 {

@@ -106,7 +106,7 @@ impl IndexedMachine {
         ensures query { IfOk result (λ f. f.query ≡ q) }
         ensures finding { IfOk result (IsFindingOf weighted self.old q.0) }
         ensures committed { IfOk result (λ f. is_committed_query self.old q.0 ≡ true) }
-        ensures refused { IsErrOf result AuditError.NotACommittedQuery → is_committed_query self.old q.0 ≡ false }
+        ensures not_committed_query { IsErrOf result AuditError.NotACommittedQuery → is_committed_query self.old q.0 ≡ false }
         ensures no_worker_error { ¬ IsErrOf result AuditError.WorkersOutOfRange }
     {
         let history = self.machine.history();
@@ -122,7 +122,7 @@ impl IndexedMachine {
         ensures summary { IfOk result (λ a. audited a ≡ summary_of weighted self.old q.0) }
         ensures stable { IfOk result (IsAuditFrom weighted self.old) }
         ensures committed { IfOk result (λ a. is_committed_query self.old q.0 ≡ true) }
-        ensures refused { IsErrOf result AuditError.NotACommittedQuery → is_committed_query self.old q.0 ≡ false }
+        ensures not_committed_query { IsErrOf result AuditError.NotACommittedQuery → is_committed_query self.old q.0 ≡ false }
         ensures no_worker_error { ¬ IsErrOf result AuditError.WorkersOutOfRange }
     {
         if let Some(audit) = self.take_audit(q) {

@@ -294,7 +294,7 @@ impl Script {
     fn find(&mut self, name: &str) -> Result<Finding, RunFault>
         ensures ok { OnOk result (self.new ≡ closed self.old) }
         ensures found { IfOk result (IsFoundOf self.old name.now) }
-        ensures refused { IsErrOf result RunFault.NotACommittedQuery → (self.new ≡ closed self.old)
+        ensures not_committed_query { IsErrOf result RunFault.NotACommittedQuery → (self.new ≡ closed self.old)
             × (is_committed_query self.old.history (transaction_called self.old name.now).0 ≡ false) }
         ensures faults { IfErr result (λ e. (e ≡ RunFault.NoMemory) ⊎ (e ≡ RunFault.NotACommittedQuery)) }
     {
@@ -310,7 +310,7 @@ impl Script {
     fn summarize(&mut self, name: &str) -> Result<QueryAudit, RunFault>
         ensures ok { OnOk result (self.new ≡ closed self.old) }
         ensures audit { IfOk result (IsAuditOf self.old name.now) }
-        ensures refused { IsErrOf result RunFault.NotACommittedQuery → (self.new ≡ closed self.old)
+        ensures not_committed_query { IsErrOf result RunFault.NotACommittedQuery → (self.new ≡ closed self.old)
             × (is_committed_query self.old.history (transaction_called self.old name.now).0 ≡ false) }
         ensures faults { IfErr result (λ e. (e ≡ RunFault.NoMemory) ⊎ (e ≡ RunFault.NotACommittedQuery)) }
     {
@@ -386,7 +386,7 @@ impl Script {
         observer: &mut O,
     ) -> Result<AuditedQuery, RunFault>
         ensures answered { IfOk result (IsAnswered self name.now) }
-        ensures refused { IsErrOf result RunFault.NotACommittedQuery
+        ensures not_committed_query { IsErrOf result RunFault.NotACommittedQuery
             → is_committed_query self.history (transaction_called self name.now).0 ≡ false }
         ensures faults { IfErr result (λ e. (e ≡ RunFault.NoMemory) ⊎ (e ≡ RunFault.NotACommittedQuery)) }
     {

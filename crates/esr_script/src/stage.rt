@@ -169,7 +169,7 @@ impl Stage {
         ensures shown { IfOk result (λ f. IsShown weighted (history_of self.old) q.0 f.distance
             (map (λ t. t.0) f.before.items) f.problem (certificate_of f.certificate)) }
         ensures relevant { IfOk result (λ f. AreRelevant (history_of self.old) q.0 f.problem.updates) }
-        ensures refused { IsErrOf result AuditError.NotACommittedQuery
+        ensures not_committed_query { IsErrOf result AuditError.NotACommittedQuery
             → is_committed_query (history_of self.old) q.0 ≡ false }
         ensures no_worker_error { ¬ IsErrOf result AuditError.WorkersOutOfRange }
     {
@@ -187,7 +187,7 @@ impl Stage {
         ensures summary { IfOk result (λ a. audited a ≡ summary_of weighted (history_of self.old) q.0) }
         ensures stable { IfOk result (IsAuditFrom weighted (history_of self.old)) }
         ensures committed { IfOk result (λ a. is_committed_query (history_of self.old) q.0 ≡ true) }
-        ensures refused { IsErrOf result AuditError.NotACommittedQuery
+        ensures not_committed_query { IsErrOf result AuditError.NotACommittedQuery
             → is_committed_query (history_of self.old) q.0 ≡ false }
         ensures no_worker_error { ¬ IsErrOf result AuditError.WorkersOutOfRange }
     {

@@ -26,7 +26,7 @@ pub fn is_marked(flags: &[bool], i: usize) -> bool
 
 /// Sets the flag of each item that one of these accesses writes, if `writes` is true, or reads, if it is false.
 fn mark(flags: &mut [bool], accesses: &[Access], writes: bool)
-    requires items { All (λ a. a.item.0 < length flags.old) accesses.now }
+    requires in_range { All (λ a. a.item.0 < length flags.old) accesses.now }
     ensures len { length flags.new ≡ length flags.old }
     ensures marks { (x : ℕ) → marked flags.new x
         ≡ (marked flags.old x || list_any (is_access writes x) accesses.now) }
@@ -65,8 +65,8 @@ impl Later {
 
     /// Adds the accesses of a marked update.
     fn add(&mut self, accesses: &[Access])
-        requires read { All (λ a. a.item.0 < length self.old.read.items) accesses.now }
-        requires written { All (λ a. a.item.0 < length self.old.written.items) accesses.now }
+        requires read_in_range { All (λ a. a.item.0 < length self.old.read.items) accesses.now }
+        requires written_in_range { All (λ a. a.item.0 < length self.old.written.items) accesses.now }
         ensures read_len { length self.new.read.items ≡ length self.old.read.items }
         ensures written_len { length self.new.written.items ≡ length self.old.written.items }
         ensures read { (x : ℕ) → marked self.new.read.items x
@@ -80,8 +80,8 @@ impl Later {
 
     /// Adds the accesses of an update, if it is marked.
     fn add_if(&mut self, accesses: &[Access], is_member: bool)
-        requires read { All (λ a. a.item.0 < length self.old.read.items) accesses.now }
-        requires written { All (λ a. a.item.0 < length self.old.written.items) accesses.now }
+        requires read_in_range { All (λ a. a.item.0 < length self.old.read.items) accesses.now }
+        requires written_in_range { All (λ a. a.item.0 < length self.old.written.items) accesses.now }
         ensures read_len { length self.new.read.items ≡ length self.old.read.items }
         ensures written_len { length self.new.written.items ≡ length self.old.written.items }
         ensures member { is_member ≡ true → IsAdded accesses.now (seen_later self.old) (seen_later self.new) }
@@ -105,13 +105,13 @@ fn no_later(alloc: Global, items: u32) -> Result<Later, AllocError>
     Ok(Later { read, written })
 }
 
-/// Returns whether an update has been marked, now or before.
-fn is_more(more: bool, is_member: bool, was_member: bool) -> bool {
-    more || is_member != was_member
+/// Returns whether this pass has marked an update that was not marked before it, `added` until the last update.
+fn has_added(added: bool, is_member: bool, was_member: bool) -> bool {
+    added || is_member != was_member
 }
 
 /// Marks the updates that precede marked updates, if all updates before the position `from` are marked. Returns whether it
-/// marked any.
+/// marked any. In `forced`, `n` is the number of items, and `C x v` the cost of the version `v` of item `x`.
 ///
 /// # Errors
 ///
@@ -139,13 +139,13 @@ pub fn close<M: Metric>(
     let _invariant = history.log(); // brings the invariant into the proof
     let mut later = no_later(alloc, history.items())?;
     let mut list = Vec::new(alloc);
-    let mut more = false;
+    let mut added = false;
     for i in (from..updates.len()).rev() {
         let row = index.accesses_of(history, updates[i], &mut list)?;
         let is_member = later.is_member(row, marks[i]);
-        more = is_more(more, is_member, marks[i]);
+        added = has_added(added, is_member, marks[i]);
         marks[i] = is_member;
         later.add_if(row, is_member);
     }
-    Ok(more)
+    Ok(added)
 }

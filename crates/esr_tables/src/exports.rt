@@ -15,13 +15,13 @@ use esr_items::Weighted;
 use esr_replay::{MetricRef, Replay};
 use std::alloc::{AllocError, Global};
 
-/// Returns the transaction that began after `place` others.
-pub fn txn_at(history: &History<Weighted>, place: usize) -> TxnId
-    requires { place < begun_count history.now.schedule.entries }
-    ensures { result.0 ≡ place + 1 }
+/// Returns the transaction that began after `index` others.
+pub fn nth_txn(history: &History<Weighted>, index: usize) -> TxnId
+    requires { index < begun_count history.now.schedule.entries }
+    ensures { result.0 ≡ index + 1 }
 {
     let _invariant = history.log(); // brings the invariant into the proof
-    TxnId(place as u32 + 1)
+    TxnId(index as u32 + 1)
 }
 
 /// Returns what the transactions of a machine exported, starting with the nonexistent transaction 0.
@@ -44,8 +44,8 @@ fn exports_in(
 fn imports_nothing(history: &History<Weighted>) -> bool
     ensures { result ≡ true → all_imports weighted history.now.schedule ≡ 0 }
 {
-    for place in 0..history.begun_count() {
-        if history.import(txn_at(history, place)) > 0 {
+    for index in 0..history.begun_count() {
+        if history.import(nth_txn(history, index)) > 0 {
             return false;
         }
     }

@@ -12,7 +12,7 @@ ghost use Rattle.esr_outcomes.specs.Outcomes.{distance_of};
 ghost use Rattle.esr_tables.specs.Rows.{import_or_export, row_of, rows_of, tally_of};
 ghost use Rattle.esr_tables.specs.Entries.{AreColumns, AreTallies};
 
-use crate::exports::{exports, txn_at};
+use crate::exports::{exports, nth_txn};
 use crate::tallies::{Tally, tallies};
 use esr_history::{History, NoMemory, TxnId};
 use esr_items::Weighted;
@@ -140,8 +140,8 @@ pub fn rows_of(alloc: Global, history: &History<Weighted>) -> Result<Vec<Row>, N
     let columns = columns_of(alloc, history)?;
     let auditor = Auditor::of(alloc, history)?;
     let mut rows = Vec::new(alloc);
-    for place in 0..history.begun_count() {
-        let t = txn_at(history, place);
+    for index in 0..history.begun_count() {
+        let t = nth_txn(history, index);
         let distance = auditor.distance(alloc, t)?;
         push_row(&mut rows, row_of(history, &columns, t, distance))?;
     }

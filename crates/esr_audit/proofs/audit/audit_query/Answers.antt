@@ -13,6 +13,6 @@ returns-clause-stable g c =
     let f = c.in_ok-finding_of.field-0 in
     let both : is_committed_query h c.args.q.0 ≡ true = elim (cases_Bool (is_committed_query h c.args.q.0)) [
       | inl is ↦ is
-      | inr isnt ↦ let none = c.in_ok-order.ensures.refused.1 isnt in absurd (cc)
+      | inr isnt ↦ let none = c.in_ok-order.ensures.not_committed_query.1 isnt in absurd (cc)
     ] in
     answer.stable g.M.Metric.distance_by h c.args.q.0 f.distance f.import (map (λ (t : TxnId). t.0) f.before.items) (and_parts (is_query (accepted_in h) c.args.q.0) (is_committed (accepted_in h) c.args.q.0) both).1 c.in_ok-finding_of.ensures.finding.answer

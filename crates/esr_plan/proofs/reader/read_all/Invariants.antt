@@ -2,7 +2,7 @@ use Rattle.std.proofs.Common.{◌≡◌, ◌<◌, false, None, length}
 use Rattle.std.specs.Io.KnownBytes.{Consumes}
 use Rattle.esr_base.specs.Watch.{inner, failed}
 use Rattle.esr_grammar.specs.Lines.{lines}
-use Rattle.esr_plan.specs.Plan.{cut_fault}
+use Rattle.esr_plan.specs.Plan.{line_limit_fault}
 use Rattle.esr_plan.specs.Readings.{IsMark, rest_from}
 use Rattle.esr_plan.proofs.reader.read_all.Given as goal
 
@@ -13,4 +13,4 @@ invariant-loop g l =
     × (0 < length l.chunk.items)
     × Consumes (g.R.Read.remaining (inner l.fn.reader)) (g.R.Read.remaining (inner l.reader)) l.bytes.items
     × IsMark l.bytes.items l.mark
-    × (cut_fault l.mark.lines (lines (rest_from l.bytes.items l.mark)) ≡ None)
+    × (line_limit_fault l.mark.lines (lines (rest_from l.bytes.items l.mark)) ≡ None)

@@ -11,4 +11,4 @@ pub returns-clause-audited : goal.returns-clause-audited
 returns-clause-audited g c input known =
     let replayed = c.in_ok-script.ensures.replay input known in
     audited_after input c.args.name.now (g.R.Read.remaining (inner c.replay.new.reader)) c.in_ok-script.script c.audited_query.result replayed.0 replayed.1 replayed.2
-    c.audited_query.ensures.answered c.audited_query.ensures.refused c.audited_query.ensures.faults
+    c.audited_query.ensures.answered c.audited_query.ensures.not_committed_query c.audited_query.ensures.faults

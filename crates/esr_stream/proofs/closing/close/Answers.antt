@@ -24,13 +24,13 @@ loop-i-init g c =
           c.in_ok-later.ensures.read c.in_ok-later.ensures.written;
     }
 
-pub add_if-requires-clause-read : goal.add_if-requires-clause-read
-add_if-requires-clause-read g c =
+pub add_if-requires-clause-read_in_range : goal.add_if-requires-clause-read_in_range
+add_if-requires-clause-read_in_range g c =
     subst (λ l. All (λ (a : Access). a.item.0 < length c.loop-i.later.read.items) l) (sym c.in_ok-row.ensures)
     (accesses_inside g.M.Metric.distance_by c.args.history.now.schedule c.log-invariant.ensures.legal _ (length c.loop-i.later.read.items) c.loop-i.invariant.read)
 
-pub add_if-requires-clause-written : goal.add_if-requires-clause-written
-add_if-requires-clause-written g c =
+pub add_if-requires-clause-written_in_range : goal.add_if-requires-clause-written_in_range
+add_if-requires-clause-written_in_range g c =
     subst (λ l. All (λ (a : Access). a.item.0 < length c.loop-i.later.written.items) l) (sym c.in_ok-row.ensures)
     (accesses_inside g.M.Metric.distance_by c.args.history.now.schedule c.log-invariant.ensures.legal _ (length c.loop-i.later.written.items) c.loop-i.invariant.written)
 

@@ -6,14 +6,14 @@ use Rattle.esr_history.specs.Machine.{charges_in, import_in}
 use Rattle.esr_tables.proofs.Exported.{none_more}
 use Rattle.esr_tables.proofs.exports.imports_nothing.Goals as goal
 
-pub loop-place-preserved : goal.loop-place-preserved
-loop-place-preserved c =
+pub loop-index-preserved : goal.loop-index-preserved
+loop-index-preserved c =
     let h = c.args.history.now.schedule in
-    none_more (λ t. import_in (charges_in weighted h) t) c.loop-place.place c.import.result c.loop-place.invariant
-    (c.import.ensures ∙ ap (import_in (charges_in weighted h)) c.txn_at.ensures) (omega arith)
+    none_more (λ t. import_in (charges_in weighted h) t) c.loop-index.index c.import.result c.loop-index.invariant
+    (c.import.ensures ∙ ap (import_in (charges_in weighted h)) c.nth_txn.ensures) (omega arith)
 
 pub returns : goal.returns
 returns c = λ yes.
     let h = c.args.history.now.schedule in
-    let all : c.loop-place.place ≡ begun_count h.entries = omega (arith, c.loop-place-test.false, c.loop-place.auto.place-end, c.begun_count-place-end.ensures) in
-    ap (λ n. sum_by (λ t. import_in (charges_in weighted h) t) (range_with_len 1 n)) (sym all) ∙ c.loop-place.invariant
+    let all : c.loop-index.index ≡ begun_count h.entries = omega (arith, c.loop-index-test.false, c.loop-index.auto.index-end, c.begun_count-index-end.ensures) in
+    ap (λ n. sum_by (λ t. import_in (charges_in weighted h) t) (range_with_len 1 n)) (sym all) ∙ c.loop-index.invariant

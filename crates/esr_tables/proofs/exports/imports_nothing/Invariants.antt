@@ -5,5 +5,5 @@ use Rattle.esr_history.specs.Machine.{charges_in, import_in}
 use Rattle.esr_tables.proofs.exports.imports_nothing.Given as goal
 
 -- those so far imported nothing
-abbrev pub invariant-loop-place : goal.invariant-loop-place
-invariant-loop-place l = sum_by (λ t. import_in (charges_in weighted l.history.schedule) t) (range_with_len 1 l.place) ≡ 0
+abbrev pub invariant-loop-index : goal.invariant-loop-index
+invariant-loop-index l = sum_by (λ t. import_in (charges_in weighted l.history.schedule) t) (range_with_len 1 l.index) ≡ 0

@@ -11,7 +11,7 @@ pub returns-in-Err-clause-err : goal.returns-in-Err-clause-err
 returns-in-Err-clause-err g c = let job = c.in-Some.job in let js = map (λ (p : ℕ × g.row.T.Denot). p.0) c.loop-job.found.items in (
   js ++ job ∷ [],
   claimed_then _ _ _ _ js (job ∷ []) c.loop-job.invariant.has_claimed (claimed_job _ _ _ job c.in-Some.ensures.job.1 c.in-Some.ensures.job.0),
-  λ e. any_last (λ n. (n < c.args.board.now.jobs) × (is_committed_query c.args.history.now.schedule (query_of c.args.jobs.now n).0 ≡ false)) js job (c.in-Some.ensures.job.0, c.in-Err.ensures.refused.0 (search rules)),
+  λ e. any_last (λ n. (n < c.args.board.now.jobs) × (is_committed_query c.args.history.now.schedule (query_of c.args.jobs.now n).0 ≡ false)) js job (c.in-Some.ensures.job.0, c.in-Err.ensures.not_committed_query.0 (search rules)),
 )
 
 pub returns-then-is_err-clause-err : goal.returns-then-is_err-clause-err

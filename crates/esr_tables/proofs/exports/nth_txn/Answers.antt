@@ -2,7 +2,7 @@ use Rattle.std.proofs.Common.{◌≤◌, arith}
 use Rattle.esr_items.specs.Weights.{weighted}
 use Rattle.esr_history.specs.BackLinks.{begun_count}
 use Rattle.esr_history.proofs.WithinRanges.{legal_begins}
-use Rattle.esr_tables.proofs.exports.txn_at.Goals as goal
+use Rattle.esr_tables.proofs.exports.nth_txn.Goals as goal
 
 pub overflow_cast-result : goal.overflow_cast-result
 overflow_cast-result c =
