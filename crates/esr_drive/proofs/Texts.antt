@@ -13,7 +13,7 @@ use Rattle.esr_plan.specs.declared.drive_plan.DrivePlan.{DrivePlan}
 use Rattle.esr_plan.specs.declared.call.Call.{Call}
 use Rattle.esr_plan.specs.Calls.{command_of, AreResolved, all_answers}
 use Rattle.esr_plan.specs.Drafts.{commands_in}
-use Rattle.esr_plan.specs.Plan.{Plan, plan_of, plan_from, cut_fault, with_line, nothing, weights_of}
+use Rattle.esr_plan.specs.Plan.{Plan, plan_of, plan_from, line_limit_fault, with_line, nothing, weights_of}
 use Rattle.esr_plan.specs.DrivePlans.{plan_in, IsSound}
 use Rattle.esr_plan.proofs.Cuts.{IsCut, IsNoneOrCut, all_cut}
 use Rattle.esr_drive.specs.Driven.{IsDriven}
@@ -86,7 +86,7 @@ from_fine number p (l ∷ ls) = at (with_line p l) (λ next. from_fine (number +
     at (Err error) more = tt
 
 plan_fine : (bytes : List ℕ) → IsFine (plan_of bytes)
-plan_fine bytes = at (cut_fault 0 (lines bytes)) (all_cut 0 (lines bytes))
+plan_fine bytes = at (line_limit_fault 0 (lines bytes)) (all_cut 0 (lines bytes))
   where
     at : (o : Option DriveFault) → IsNoneOrCut o → IsFine (elim o [ Some e ↦ Err e | None ↦ plan_from 1 nothing (lines bytes) ])
     at None p = from_fine 1 nothing (lines bytes)

@@ -14,7 +14,7 @@ ghost use Rattle.esr_session.specs.Engine.{AreTotals};
 ghost use Rattle.esr_plan.specs.Calls.{all_answers};
 ghost use Rattle.esr_drive.specs.Faults.{IsTextFault, IsEngineFault};
 ghost use Rattle.esr_plan.specs.DrivePlans.{plan_in, IsSound};
-ghost use Rattle.esr_plan.specs.Plan.{cut_fault, weights_of};
+ghost use Rattle.esr_plan.specs.Plan.{line_limit_fault, weights_of};
 
 use crate::blocks::{Driven, drive_blocks};
 use crate::findings::push_findings;
@@ -73,7 +73,7 @@ fn text_in<R: Threads + Wait + Sync, G: Gate + Sync, V: Observer>(
     gate: &G,
     observer: &mut V,
 ) -> Result<Vec<u8>, DriveFault>
-    requires read { cut_fault 0 (lines bytes.now) ≡ None }
+    requires read { line_limit_fault 0 (lines bytes.now) ≡ None }
     requires workers { HasWorkers form }
     ensures text { IfOk result (λ out. IsDriveText form bytes.now out.items) }
     ensures faults { IfErr result (IsTextFault bytes.now) }
