@@ -54,7 +54,7 @@ abbrev pub progress_after : Option Event → Schedule → BlockProgressView → 
 progress_after None h s = s
 progress_after (Some e) h s = with_reply (reply_to weighted h e) s
 
--- all blocks, and the history that they make
+-- the state of a run: the history, and the progress of each block
 pub record RunState : Type 0 where
   pub history : Schedule
   pub blocks : List BlockProgressView

@@ -14,6 +14,7 @@ use Rattle.esr_explore.specs.Report.{heading, max_and_median_text}
 use Rattle.esr_explore.specs.Severity.{amount_of, first_greatest}
 use Rattle.esr_explore.specs.Summaries.{given_up_in}
 
+-- a borrowed text with these bytes; its address does not matter
 abbrev name : List ℕ → Bor (List ℕ)
 name bytes = record { ref_ptr = (0, 0); now = bytes }
 

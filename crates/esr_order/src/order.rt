@@ -1,10 +1,10 @@
 //! Builds the order of a query's updates: the updates, a sparse set of conflicting pairs, and the writers of each item
 //! with the values that they left.
 //!
-//! `of` contains all updates that committed before the query, for tests and other callers. `relevant` contains only those
-//! that can affect the query's reads; both have the same closed sets of least cost, and the audit uses `relevant`. The
-//! pairs have the same closed sets as the whole conflict order, with at most two pairs for each operation. `take_chain`
-//! moves chains out of an order one by one, so that an audit's costs can reuse the memory of the values.
+//! `of` orders all updates that committed before the query, for tests and other callers. `relevant`, for the audit, orders
+//! only those that can affect the query's reads. Both orders have the same smallest closed set of least cost. The pairs
+//! have the same closed sets as the whole conflict order, with at most two pairs for each operation. `take_chain` moves
+//! chains out of an order one by one, so that an audit's costs can reuse the memory of the values.
 
 ghost use Rattle.std.specs.Prelude.{◌≡◌, ◌↔◌, ◌<◌, ◌≤◌, ◌*◌, ◌^◌, length, map, filter, ℕ, AllPairs, ◌≢◌, false, IfOk, IsErrOf, option_map};
 ghost use Rattle.std.specs.List.{range_with_len};

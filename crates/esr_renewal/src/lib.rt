@@ -13,7 +13,7 @@
 //! update holds its locks to its end: so no lock refuses an operation, and each read of an update returns its earlier value.
 //!
 //! Rejected: to reduce a limit by all charges, which charges open conflicts twice; and to repeat the reads of queries before
-//! the writes of updates, which charges an update that writes several times for each of its writes.
+//! the writes of updates, which charges each of several writes of an item by an update, not only the last.
 #![tactic(auto)]
 
 ghost use Rattle.esr_renewal.specs.Carry.{LawOfCarriedOrder, LawOfCarry, LawOfOpenExports};

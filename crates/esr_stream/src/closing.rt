@@ -56,11 +56,11 @@ impl Later {
         })
     }
 
-    /// Returns whether an update is marked: it is already, or it conflicts with a later marked update.
-    fn is_member(&self, accesses: &[Access], marked: bool) -> bool
-        ensures { result ≡ (marked || list_any (conflicts_with (seen_later self.now)) accesses.now) }
+    /// Returns whether an update belongs to the closed set: it was marked before, or it conflicts with a later marked update.
+    fn is_member(&self, accesses: &[Access], was_member: bool) -> bool
+        ensures { result ≡ (was_member || list_any (conflicts_with (seen_later self.now)) accesses.now) }
     {
-        marked || self.has_conflict(accesses)
+        was_member || self.has_conflict(accesses)
     }
 
     /// Adds the accesses of a marked update.
@@ -105,13 +105,15 @@ fn no_later(alloc: Global, items: u32) -> Result<Later, AllocError>
     Ok(Later { read, written })
 }
 
-/// Returns whether this pass has marked an update that was not marked before it, `added` until the last update.
+/// Returns whether this pass has marked an update that was not marked before the pass. `added` is the answer for the updates
+/// that it visited before this one.
 fn has_added(added: bool, is_member: bool, was_member: bool) -> bool {
     added || is_member != was_member
 }
 
 /// Marks the updates that precede marked updates, if all updates before the position `from` are marked. Returns whether it
-/// marked any. In `forced`, `n` is the number of items, and `C x v` the cost of the version `v` of item `x`.
+/// marked any. In `forced`, `n` is the number of items, `C x v` the cost of the version `v` of item `x`, and `worth` any
+/// cost.
 ///
 /// # Errors
 ///

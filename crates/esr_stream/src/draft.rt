@@ -21,18 +21,18 @@ use esr_items::{ItemId, Metric};
 use esr_order::Access;
 use std::alloc::{AllocError, Global};
 
-/// The place of no version. A place takes 31 bits.
+/// The id of no version. An id is an index in `Draft::versions` and takes 31 bits.
 pub const NONE: u32 = u32::MAX >> 1;
 
 /// The position of no update.
 pub const NOBODY: u16 = u16::MAX;
 
-/// A version of an item, or the place of a read, which has no version.
+/// A version of an item. An access that only reads has an entry too, which is never used.
 #[derive(Clone, Copy)]
 pub struct Version {
     /// Its amount. Before the sweep has passed it: the cost of the version that it overwrites.
     pub amount: u64,
-    /// Twice the place of the version that it overwrites (`NONE` for a read), plus 1 if its amount is less than its cost.
+    /// Twice the id of the version that it overwrites (`NONE` for a read), plus 1 if its amount is less than its cost.
     link: u32,
     /// The update that leaves it.
     pub owner: u16,
@@ -88,7 +88,7 @@ fn link_to(earlier: u32) -> u32 {
 /// position of the sweep.
 #[derive(Clone, Copy)]
 struct Cell {
-    place: u32,
+    id: u32,
     /// Its cost, plus the offset.
     cost: u64,
     amount: u64,
@@ -98,7 +98,7 @@ struct Cell {
 #[derive(Drop)]
 pub struct Draft {
     pub versions: Vec<Version>,
-    /// The first place of each update, and the end of the last one.
+    /// The id of the first version of each update, and the end of the last update's ids.
     starts: Vec<u32>,
     cells: Vec<Cell>,
 }
@@ -147,7 +147,7 @@ impl Draft {
             );
             draft.push_version(NOBODY, NONE, 0)?;
             draft.cells.push(Cell {
-                place: x,
+                id: x,
                 cost,
                 amount: 0,
             })?;
@@ -180,13 +180,13 @@ impl Draft {
 
     pub fn start(&self, update: u16) -> u32 {
         match self.starts.get(update as usize) {
-            Some(place) => *place,
+            Some(id) => *id,
             None => NONE,
         }
     }
 
-    pub fn version(&self, place: u32) -> Version {
-        match self.versions.get(place as usize) {
+    pub fn version(&self, id: u32) -> Version {
+        match self.versions.get(id as usize) {
             Some(version) => *version,
             None => Version {
                 amount: 0,
@@ -201,17 +201,17 @@ impl Draft {
         match self.cells.get(x.0 as usize) {
             Some(cell) => *cell,
             None => Cell {
-                place: NONE,
+                id: NONE,
                 cost: 0,
                 amount: 0,
             },
         }
     }
 
-    fn set_version(&mut self, place: u32, version: Version) {
-        let place = place as usize;
-        if place < self.versions.len() {
-            self.versions[place] = version;
+    fn set_version(&mut self, id: u32, version: Version) {
+        let id = id as usize;
+        if id < self.versions.len() {
+            self.versions[id] = version;
         }
     }
 
@@ -222,31 +222,31 @@ impl Draft {
         }
     }
 
-    /// Appends a write of an update that begins at a place.
+    /// Appends a write. `start` is the id of the update's first version.
     fn push_write(
         &mut self,
         x: ItemId,
         cost: u64,
         update: u16,
         start: u32,
-        place: u32,
+        id: u32,
     ) -> Result<(), AllocError> {
         let cell = self.cell(x);
-        let before = self.version(cell.place);
+        let before = self.version(cell.id);
         self.set_cell(
             x,
             Cell {
-                place,
+                id,
                 cost,
                 amount: 0,
             },
         );
-        if cell.place < start {
-            self.set_version(cell.place, before.with_next(update));
-            return self.push_version(update, cell.place, cell.cost);
+        if cell.id < start {
+            self.set_version(cell.id, before.with_next(update));
+            return self.push_version(update, cell.id, cell.cost);
         }
         // an earlier write of the same update no longer counts
-        self.set_version(cell.place, before.without_link());
+        self.set_version(cell.id, before.without_link());
         self.push_version(update, before.earlier(), before.amount)
     }
 
@@ -264,15 +264,15 @@ impl Draft {
     {
         let start = short(self.versions.len());
         self.starts.push(start)?;
-        let mut place = start;
+        let mut id = start;
         for access in row {
             if access.writes {
                 let cost = raised_cost(metric, lists, access.item, access.value);
-                self.push_write(access.item, cost, update, start, place)?;
+                self.push_write(access.item, cost, update, start, id)?;
             } else {
                 self.push_version(update, NONE, 0)?;
             }
-            place = place.saturating_add(1);
+            id = id.saturating_add(1);
         }
         Ok(())
     }
@@ -284,7 +284,7 @@ impl Draft {
         for x in 0..self.cells.len() {
             let cell = self.cells[x];
             self.cells[x] = Cell {
-                place: cell.place,
+                id: cell.id,
                 cost: cell.cost,
                 amount: cell.cost,
             };
@@ -296,8 +296,8 @@ impl Draft {
     pub fn settle(&mut self) {
         for x in 0..short(self.cells.len()) {
             let cell = self.cell(ItemId(x));
-            let version = self.version(cell.place);
-            self.set_version(cell.place, version.with_amount(cell.amount, false));
+            let version = self.version(cell.id);
+            self.set_version(cell.id, version.with_amount(cell.amount, false));
         }
     }
 
@@ -307,9 +307,9 @@ impl Draft {
             cost: 0,
             count: 0,
         };
-        let mut place = start;
+        let mut id = start;
         for access in row {
-            let version = self.version(place);
+            let version = self.version(id);
             if version.earlier() != NONE {
                 sums = Sums {
                     due: sums.due.saturating_add(self.cell(access.item).amount),
@@ -317,22 +317,22 @@ impl Draft {
                     count: sums.count.saturating_add(1),
                 };
             }
-            place = place.saturating_add(1);
+            id = id.saturating_add(1);
         }
         sums
     }
 
     /// Passes a version that an update leaves: stores its amount, and gives an amount to the version that it overwrites.
-    fn pass_back(&mut self, x: ItemId, place: u32, version: Version, amount: u64) {
+    fn pass_back(&mut self, x: ItemId, id: u32, version: Version, amount: u64) {
         let cell = self.cell(x);
         self.set_version(
-            place,
+            id,
             version.with_amount(cell.amount, cell.amount < cell.cost),
         );
         self.set_cell(
             x,
             Cell {
-                place: version.earlier(),
+                id: version.earlier(),
                 cost: version.amount,
                 amount,
             },
@@ -341,28 +341,28 @@ impl Draft {
 
     /// Gives the versions that an update overwrites their costs as amounts.
     fn fill(&mut self, row: &[Access], start: u32) {
-        let mut place = start;
+        let mut id = start;
         for access in row {
-            let version = self.version(place);
+            let version = self.version(id);
             if version.earlier() != NONE {
-                self.pass_back(access.item, place, version, version.amount);
+                self.pass_back(access.item, id, version, version.amount);
             }
-            place = place.saturating_add(1);
+            id = id.saturating_add(1);
         }
     }
 
     /// Distributes an amount over the versions that an update overwrites, in a ratio of their costs in units of 2^-31.
     fn share(&mut self, row: &[Access], start: u32, due: u64, ratio: u64) {
         let mut left = due;
-        let mut place = start;
+        let mut id = start;
         for access in row {
-            let version = self.version(place);
+            let version = self.version(id);
             if version.earlier() != NONE {
                 let part = part_of(version.amount.saturating_sub(OFFSET), ratio).min(left);
-                self.pass_back(access.item, place, version, part.saturating_add(OFFSET));
+                self.pass_back(access.item, id, version, part.saturating_add(OFFSET));
                 left = left.saturating_sub(part);
             }
-            place = place.saturating_add(1);
+            id = id.saturating_add(1);
         }
         self.share_rest(row, start, left);
     }
@@ -370,17 +370,17 @@ impl Draft {
     /// Distributes what the ratio has rounded off.
     fn share_rest(&mut self, row: &[Access], start: u32, rest: u64) {
         let mut left = rest;
-        let mut place = start;
+        let mut id = start;
         for access in row {
             if left == 0 {
                 return;
             }
-            if self.version(place).earlier() != NONE {
+            if self.version(id).earlier() != NONE {
                 let part = self.room(access.item).min(left);
                 self.add(access.item, part);
                 left = left.saturating_sub(part);
             }
-            place = place.saturating_add(1);
+            id = id.saturating_add(1);
         }
     }
 
@@ -396,7 +396,7 @@ impl Draft {
         self.set_cell(
             x,
             Cell {
-                place: cell.place,
+                id: cell.id,
                 cost: cell.cost,
                 amount,
             },
@@ -404,17 +404,17 @@ impl Draft {
     }
 
     /// Takes from the amount of a version that the sweep has passed.
-    pub fn take(&mut self, place: u32, less: u64) {
-        let version = self.version(place);
+    pub fn take(&mut self, id: u32, less: u64) {
+        let version = self.version(id);
         let amount = version.amount.saturating_sub(less);
-        self.set_version(place, version.with_amount(amount, true));
+        self.set_version(id, version.with_amount(amount, true));
     }
 
     /// Adds to the amount of a version that the sweep has passed.
-    pub fn give(&mut self, place: u32, more: u64, cost: u64) {
-        let version = self.version(place);
+    pub fn give(&mut self, id: u32, more: u64, cost: u64) {
+        let version = self.version(id);
         let amount = version.amount.saturating_add(more);
-        self.set_version(place, version.with_amount(amount, amount < cost));
+        self.set_version(id, version.with_amount(amount, amount < cost));
     }
 
     /// Passes an update back: moves the amounts of the versions that it leaves to those that it overwrites. Returns what these

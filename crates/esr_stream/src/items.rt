@@ -24,9 +24,9 @@ pub struct ItemState {
     covered: bool,
 }
 
-/// Returns the amount at a place, 0 past the end.
-fn amount_at(amounts: &[Version], place: usize) -> u64 {
-    match amounts.get(place) {
+/// Returns the amount of a version, 0 past the end.
+fn amount_at(versions: &[Version], id: usize) -> u64 {
+    match versions.get(id) {
         Some(version) => version.amount,
         None => 0,
     }

@@ -68,7 +68,7 @@ fn cost_of<M: Metric>(
     updates: &[TxnId],
     lists: &[Vec<i64>],
     draft: &Draft,
-    place: u32,
+    id: u32,
     list: &mut Vec<Access>,
 ) -> Result<u64, AllocError>
     requires index { IsWholeIndexOf history.now.schedule.entries index.now }
@@ -76,12 +76,12 @@ fn cost_of<M: Metric>(
     requires read { AreRead lists.now }
 {
     let _invariant = history.log(); // brings the invariant into the proof
-    let owner = draft.version(place).owner;
+    let owner = draft.version(id).owner;
     let Some(txn) = updates.get(owner as usize).copied() else {
         return Ok(0);
     };
     let row = index.accesses_of(history, txn, list)?;
-    let j = place.saturating_sub(draft.start(owner));
+    let j = id.saturating_sub(draft.start(owner));
     Ok(cost_in(history.metric(), lists, row, j as usize))
 }
 
@@ -101,11 +101,11 @@ impl Searches {
     }
 
     fn see(&mut self, update: u16, way: Way, from: u16) -> Result<(), AllocError> {
-        let place = update as usize;
-        if place < self.sights.len() {
-            let round = self.sights[place].round;
+        let i = update as usize;
+        if i < self.sights.len() {
+            let round = self.sights[i].round;
             if round != self.round && round != DEAD {
-                self.sights[place] = Sight {
+                self.sights[i] = Sight {
                     round: self.round,
                     way,
                     from,
@@ -125,10 +125,10 @@ impl Searches {
         node: u16,
         row: &[Access],
     ) -> Result<Option<ItemId>, AllocError> {
-        let mut place = draft.start(node);
+        let mut id = draft.start(node);
         for access in row {
             self.looks = self.looks.saturating_sub(1);
-            let version = draft.version(place);
+            let version = draft.version(id);
             let earlier = version.earlier();
             if earlier != NONE {
                 // the versions that the update itself overwrites are full
@@ -143,10 +143,10 @@ impl Searches {
                     }
                 }
                 if version.next != NOBODY && 0 < version.amount {
-                    self.see(version.next, Way::Less(place), node)?;
+                    self.see(version.next, Way::Less(id), node)?;
                 }
             }
-            place = place.saturating_add(1);
+            id = id.saturating_add(1);
         }
         Ok(None)
     }
@@ -181,11 +181,12 @@ impl Searches {
         Ok(None)
     }
 
-    fn end_in_vain(&mut self) {
+    /// Excludes the updates that this search reached from later searches: none of them leads to a target.
+    fn exclude_reached(&mut self) {
         for node in &self.seen {
-            let place = *node as usize;
-            if place < self.sights.len() {
-                self.sights[place].round = DEAD;
+            let i = *node as usize;
+            if i < self.sights.len() {
+                self.sights[i].round = DEAD;
             }
         }
     }
@@ -221,10 +222,10 @@ impl Searches {
                 return Ok(0);
             };
             let room = match sight.way {
-                Way::Less(place) => draft.version(place).amount,
-                Way::More(place) => {
-                    let cost = cost_of(history, index, updates, lists, draft, place, list)?;
-                    cost.saturating_sub(draft.version(place).amount)
+                Way::Less(id) => draft.version(id).amount,
+                Way::More(id) => {
+                    let cost = cost_of(history, index, updates, lists, draft, id, list)?;
+                    cost.saturating_sub(draft.version(id).amount)
                 }
             };
             least = least.min(room);
@@ -259,10 +260,10 @@ impl Searches {
                 return Ok(());
             };
             match sight.way {
-                Way::Less(place) => draft.take(place, amount),
-                Way::More(place) => {
-                    let cost = cost_of(history, index, updates, lists, draft, place, list)?;
-                    draft.give(place, amount, cost);
+                Way::Less(id) => draft.take(id, amount),
+                Way::More(id) => {
+                    let cost = cost_of(history, index, updates, lists, draft, id, list)?;
+                    draft.give(id, amount, cost);
                 }
             }
             node = sight.from;
@@ -270,7 +271,7 @@ impl Searches {
         Ok(())
     }
 
-    /// Finds versions of earlier updates for an amount that an update has to place.
+    /// Finds versions of earlier updates for an amount that an update has to distribute.
     fn supply<M: Metric>(
         &mut self,
         history: &History<M>,
@@ -292,7 +293,7 @@ impl Searches {
                 return Ok(());
             }
             let Some(target) = self.search(history, index, updates, draft, update, list)? else {
-                self.end_in_vain();
+                self.exclude_reached();
                 return Ok(());
             };
             let most = draft.room(target.item).min(due);

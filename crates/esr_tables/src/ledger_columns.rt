@@ -1,5 +1,5 @@
-//! The columns of a ledger as text and JSON, with the content of each cell. The functions are proved safe; tests compare the
-//! text.
+//! The columns of a ledger (a table with a row for each transaction of a history) as text and JSON, with the content of each
+//! cell. The functions are proved safe; tests compare the text.
 
 use crate::csv::{kind_word, outcome_word};
 use crate::rows::Row;
