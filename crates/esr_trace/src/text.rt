@@ -3,7 +3,7 @@
 use esr_history::TxnId;
 use esr_outcomes::TxnOutcome;
 use esr_report::{Names, name_of_transaction};
-use esr_text::{first, push_number};
+use esr_text::{push_count, push_number};
 use std::alloc::AllocError;
 
 /// The maximum number of names in a list; the number of the others follows.
@@ -40,17 +40,22 @@ pub fn push_rest(out: &mut String, count: usize) -> Result<(), AllocError> {
     Ok(())
 }
 
-/// The names of some updates.
+/// Appends the names of some updates in their order: all, or the last ones and how many are before them.
 pub fn push_names(
     out: &mut String,
     transactions: &Names,
     updates: &[TxnId],
 ) -> Result<(), AllocError> {
+    let earlier = updates.len().saturating_sub(MAX_NAMES);
     let mut place = 0usize;
-    for update in first(updates, MAX_NAMES) {
+    for update in updates.get(earlier..).unwrap_or(&[]) {
         out.push_str(joint(place, updates.len()))?;
         out.push_str(name_of_transaction(transactions, *update))?;
         place = place.saturating_add(1);
     }
-    push_rest(out, updates.len())
+    if earlier > 0 {
+        out.push_str(" and ")?;
+        push_count(out, earlier as u64, " earlier update", " earlier updates")?;
+    }
+    Ok(())
 }
