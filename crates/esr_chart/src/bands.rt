@@ -1,21 +1,25 @@
-//! The bands of a timeline: lanes, charges, marks and the axis, each over the ones before.
+//! The bands of a timeline: lanes, charges, heads, marks and the axis, each over the ones before. An arrow may cross a head
+//! that is above its lane; the head has a halo, so it stays legible.
 
 use crate::elements::{close_text, open_centred, open_rect, open_text, push_text, push_vertical};
 use crate::head::prefix_of;
-use crate::layout::{Band, Column, Layout, MARGIN, STEP_ROW, Span, charges_between, column_at};
+use crate::layout::{
+    Band, Column, GAP, Layout, MARGIN, STEP_ROW, Span, TEXT_ROW, charges_between, column_at,
+    fits_one_row, limit_width, name_width,
+};
 use crate::limits::push_limit;
 use crate::scene::{Arrow, Lane, Scene};
 use crate::signs::push_marks_in;
-use crate::titles::{kind_of, push_change, push_charge_title};
+use crate::titles::{kind_of, push_change, push_charge_title, push_new};
 use esr_history::MAX_LIMIT;
 use esr_outcomes::TxnOutcome;
-use esr_text::push_number;
+use esr_text::{push_number, push_value};
 use esr_trace::outcome_words;
 use std::alloc::AllocError;
 
 /// Appends the limit of a transaction.
 fn push_limit_words(out: &mut String, limit: u64, y: u32) -> Result<(), AllocError> {
-    open_text(out, "lb gy", MARGIN, y)?;
+    open_text(out, "lb gy ha", MARGIN, y)?;
     if limit >= MAX_LIMIT {
         out.push_str("no limit")?;
     } else {
@@ -26,9 +30,9 @@ fn push_limit_words(out: &mut String, limit: u64, y: u32) -> Result<(), AllocErr
 }
 
 /// Appends the charges of a transaction.
-fn push_charged(out: &mut String, charged: u64, y: u32) -> Result<(), AllocError> {
-    let class = if charged > 0 { "lb rd" } else { "lb gy" };
-    open_text(out, class, MARGIN, y)?;
+fn push_charged(out: &mut String, charged: u64, x: u32, y: u32) -> Result<(), AllocError> {
+    let class = if charged > 0 { "lb rd ha" } else { "lb gy ha" };
+    open_text(out, class, x, y)?;
     out.push_str("charged ")?;
     push_number(out, charged)?;
     close_text(out)
@@ -36,19 +40,61 @@ fn push_charged(out: &mut String, charged: u64, y: u32) -> Result<(), AllocError
 
 /// Appends the name of a transaction in front of its lane, and in the band in which it begins also its kind, its limit
 /// and its charges.
-fn push_lane_head(
+fn push_head_in_front(
     out: &mut String,
     lane: &Lane<'_>,
     top: u32,
     has_head: bool,
 ) -> Result<(), AllocError> {
-    push_text(out, "nm", MARGIN, top.saturating_add(20), lane.name)?;
+    push_text(out, "nm ha", MARGIN, top.saturating_add(20), lane.name)?;
     if !has_head {
         return Ok(());
     }
-    push_text(out, "lb gy", MARGIN, top.saturating_add(34), kind_of(lane))?;
+    let kind = kind_of(lane);
+    push_text(out, "lb gy ha", MARGIN, top.saturating_add(34), kind)?;
     push_limit_words(out, lane.limit, top.saturating_add(47))?;
-    push_charged(out, lane.charged, top.saturating_add(60))
+    push_charged(out, lane.charged, MARGIN, top.saturating_add(60))
+}
+
+/// Appends the name of a transaction above its lane, and in the band in which it begins also its kind, its limit and its
+/// charges.
+fn push_head_above(
+    out: &mut String,
+    lane: &Lane<'_>,
+    top: u32,
+    has_head: bool,
+) -> Result<(), AllocError> {
+    let y = top.saturating_add(13);
+    push_text(out, "nm ha", MARGIN, y, lane.name)?;
+    if !has_head {
+        return Ok(());
+    }
+    let x = MARGIN.saturating_add(name_width(lane)).saturating_add(GAP);
+    push_text(out, "lb gy ha", x, y, kind_of(lane))?;
+    let y = y.saturating_add(TEXT_ROW);
+    push_limit_words(out, lane.limit, y)?;
+    if fits_one_row(lane) {
+        let x = MARGIN.saturating_add(limit_width(lane)).saturating_add(GAP);
+        push_charged(out, lane.charged, x, y)
+    } else {
+        push_charged(out, lane.charged, MARGIN, y.saturating_add(TEXT_ROW))
+    }
+}
+
+/// Appends the heads of the lanes.
+fn push_heads(out: &mut String, scene: &Scene<'_>, band: &Band<'_>) -> Result<(), AllocError> {
+    let mut number = 0usize;
+    for lane in &scene.lanes {
+        let span = band.span(number);
+        let top = band.head_top(number);
+        if span.is_drawn && band.has_heads_above() {
+            push_head_above(out, lane, top, span.has_head)?;
+        } else if span.is_drawn {
+            push_head_in_front(out, lane, top, span.has_head)?;
+        }
+        number = number.saturating_add(1);
+    }
+    Ok(())
 }
 
 /// Returns the class of the band of a lane.
@@ -74,7 +120,7 @@ fn push_band_rect(
     out.push_str(" rx='4'/>\n")
 }
 
-/// Appends a lane without its marks and its outcome.
+/// Appends a lane without its head, its marks and its outcome.
 fn push_lane(
     out: &mut String,
     scene: &Scene<'_>,
@@ -87,12 +133,11 @@ fn push_lane(
         return Ok(());
     }
     let top = band.lane_top(number);
-    push_lane_head(out, lane, top, span.has_head)?;
     push_band_rect(out, lane, span, top)?;
     push_limit(out, scene, band, number, lane)
 }
 
-/// Appends the lanes without their marks and their outcomes.
+/// Appends the lanes without their heads, their marks and their outcomes.
 fn push_lanes(out: &mut String, scene: &Scene<'_>, band: &Band<'_>) -> Result<(), AllocError> {
     let mut number = 0usize;
     for lane in &scene.lanes {
@@ -143,16 +188,18 @@ fn ends_of(band: &Band<'_>, place: usize, from: usize, to: usize) -> (u32, u32) 
     let starts_at_label = has_label_on(&band.columns, place, from);
     if from > to {
         let start = if starts_at_label { 0 } else { 14 };
-        let end = band.lane_top(to).saturating_add(87);
+        let end = band.lane_top(to).saturating_add(band.span(to).arrow_row());
         return (band.lane_top(from).saturating_add(start), end);
     }
     let ends_at_label = has_label_on(&band.columns, place, to);
     let start = if starts_at_label { 47 } else { 32 };
-    let end = if ends_at_label { 0 } else { 13 };
-    (
-        band.lane_top(from).saturating_add(start),
-        band.lane_top(to).saturating_add(end),
-    )
+    let top = band.lane_top(to);
+    let end = if ends_at_label {
+        top.saturating_sub(3)
+    } else {
+        top.saturating_add(13)
+    };
+    (band.lane_top(from).saturating_add(start), end)
 }
 
 /// Returns the x of an entry.
@@ -200,17 +247,50 @@ fn push_arrows(out: &mut String, scene: &Scene<'_>, band: &Band<'_>) -> Result<(
     Ok(())
 }
 
+/// Appends the change of a charge in one row.
+fn push_change_in_row(
+    out: &mut String,
+    arrow: &Arrow<'_>,
+    x: u32,
+    y: u32,
+) -> Result<(), AllocError> {
+    open_centred(out, "lb gy ha", x, y)?;
+    push_change(out, arrow)?;
+    close_text(out)
+}
+
+/// Appends the change of a charge in two rows.
+fn push_change_in_rows(
+    out: &mut String,
+    arrow: &Arrow<'_>,
+    x: u32,
+    y: u32,
+) -> Result<(), AllocError> {
+    open_centred(out, "lb gy ha", x, y)?;
+    push_value(out, arrow.old)?;
+    close_text(out)?;
+    open_centred(out, "lb gy ha", x, y.saturating_add(TEXT_ROW))?;
+    push_new(out, arrow)?;
+    close_text(out)
+}
+
 /// Appends the amount of a charge, below the lane of the query, and the change below it.
 fn push_amount(out: &mut String, band: &Band<'_>, arrow: &Arrow<'_>) -> Result<(), AllocError> {
-    let x = x_at(&band.columns, arrow.place);
+    let Some(column) = column_at(&band.columns, arrow.place) else {
+        return Ok(());
+    };
     let top = band.lane_top(arrow.to);
-    open_centred(out, "lb rd ha", x, top.saturating_add(57))?;
+    let y = top.saturating_add(band.span(arrow.to).amount_row());
+    open_centred(out, "lb rd ha", column.x, y)?;
     out.push('+')?;
     push_number(out, arrow.amount)?;
     close_text(out)?;
-    open_centred(out, "lb gy ha", x, top.saturating_add(70))?;
-    push_change(out, arrow)?;
-    close_text(out)
+    let y = y.saturating_add(TEXT_ROW);
+    if column.is_folded {
+        push_change_in_rows(out, arrow, column.x, y)
+    } else {
+        push_change_in_row(out, arrow, column.x, y)
+    }
 }
 
 /// Appends the amounts of the charges in a band.
@@ -253,6 +333,7 @@ fn push_band(out: &mut String, scene: &Scene<'_>, band: &Band<'_>) -> Result<(),
     push_grid(out, band)?;
     push_lanes(out, scene, band)?;
     push_arrows(out, scene, band)?;
+    push_heads(out, scene, band)?;
     push_outcomes(out, scene, band)?;
     push_amounts(out, scene, band)?;
     push_marks_in(out, scene, band)?;

@@ -1,6 +1,6 @@
 //! The right edges of the texts of a band, from which the columns get their distances.
 
-use crate::layout::{Column, GAP, width_of};
+use crate::layout::{Column, GAP, MARGIN, width_of};
 use crate::scene::{Action, Arrow, Lane, Mark};
 use esr_text::{letters_of, number_letters};
 use esr_trace::outcome_words;
@@ -12,6 +12,9 @@ const MAX_ROWS: usize = 3;
 /// The least distance of two steps.
 const STEP_GAP: u32 = 6;
 
+/// The right edge of the word in front of the steps.
+const STEP_WORD: u32 = MARGIN + 28;
+
 /// The right edges of the texts of a band.
 #[derive(Drop)]
 pub struct Edges {
@@ -22,8 +25,12 @@ pub struct Edges {
     charges: Vec<u32>,
     /// Of the outcome of each lane, or 0.
     outcomes: Vec<u32>,
+    /// Of the texts above each lane, or 0.
+    heads: Vec<u32>,
     /// Of the steps in each row of the axis.
     steps: Vec<u32>,
+    /// Whether reads that are off and charges have two values one below the other.
+    is_folded: bool,
 }
 
 /// Returns half of the width of a number of letters.
@@ -31,13 +38,23 @@ fn half_of(letters: usize) -> u32 {
     width_of(letters).div_ceil(2)
 }
 
+/// Returns the letters of a read that is off and of the value in the nearest placement: `1,600 not 1,500`.
+fn off_letters(value: i64, there: i64, is_folded: bool) -> usize {
+    let there = letters_of(there).saturating_add(4);
+    if is_folded {
+        letters_of(value).max(there)
+    } else {
+        letters_of(value).saturating_add(there).saturating_add(1)
+    }
+}
+
 /// Returns the letters below a mark.
-fn value_letters(mark: &Mark<'_>) -> usize {
+fn value_letters(mark: &Mark<'_>, is_folded: bool) -> usize {
     match mark.action {
-        Action::Read { value, nearest } => {
-            let there = nearest.map_or(0, |there| letters_of(there).saturating_add(5));
-            letters_of(value).saturating_add(there)
-        }
+        Action::Read { value, nearest } => match nearest {
+            Some(there) => off_letters(value, there, is_folded),
+            None => letters_of(value),
+        },
         Action::Write { value } => letters_of(value),
         Action::Blocked { times, .. } => {
             let count = if times > 1 {
@@ -64,7 +81,8 @@ fn item_letters(mark: &Mark<'_>) -> usize {
 /// Returns half of the width of the labels of a column.
 fn half_label(column: &Column<'_>) -> u32 {
     if column.has_label {
-        half_of(item_letters(&column.mark).max(value_letters(&column.mark)))
+        let below = value_letters(&column.mark, column.is_folded);
+        half_of(item_letters(&column.mark).max(below))
     } else {
         0
     }
@@ -76,21 +94,28 @@ fn half_step(column: &Column<'_>) -> u32 {
 }
 
 /// Returns the letters of the change of a charge: `500 to 400`, and the number of reads if it is not 1.
-fn change_letters(arrow: &Arrow<'_>) -> usize {
-    let values = letters_of(arrow.old).saturating_add(letters_of(arrow.new));
+fn change_letters(arrow: &Arrow<'_>, is_folded: bool) -> usize {
     let reads = arrow.reads();
     let times = if reads > 1 {
         number_letters(reads).saturating_add(8)
     } else {
         0
     };
-    values.saturating_add(times).saturating_add(4)
+    let old = letters_of(arrow.old);
+    let new = letters_of(arrow.new)
+        .saturating_add(times)
+        .saturating_add(3);
+    if is_folded {
+        old.max(new)
+    } else {
+        old.saturating_add(new).saturating_add(1)
+    }
 }
 
 /// Returns half of the width of the text of a charge.
-fn half_charge(arrow: &Arrow<'_>) -> u32 {
+fn half_charge(arrow: &Arrow<'_>, is_folded: bool) -> u32 {
     let amount = number_letters(arrow.amount).saturating_add(1);
-    half_of(amount.max(change_letters(arrow)))
+    half_of(amount.max(change_letters(arrow, is_folded)))
 }
 
 /// Returns the width of the outcome of a lane.
@@ -144,14 +169,24 @@ fn greatest_of(edges: &[u32]) -> u32 {
 }
 
 impl Edges {
-    /// Returns the edges of a band whose lanes begin at `left`.
-    pub fn new(alloc: Global, lanes: usize, left: u32) -> Result<Edges, AllocError> {
+    /// Returns the edges of a band whose lanes begin at `left`, and whose steps are right of the word for them. The names of
+    /// lanes without a head in the band have these right edges, if they are above the lanes.
+    pub fn new(
+        alloc: Global,
+        names: Vec<u32>,
+        left: u32,
+        is_folded: bool,
+    ) -> Result<Edges, AllocError> {
+        let lanes = names.len();
+        let steps = left.saturating_sub(STEP_GAP).max(STEP_WORD);
         Ok(Edges {
             left,
             labels: vec![in alloc; left; lanes]?,
             charges: vec![in alloc; left; lanes]?,
             outcomes: vec![in alloc; 0u32; lanes]?,
-            steps: vec![in alloc; left.saturating_sub(STEP_GAP); MAX_ROWS]?,
+            heads: names,
+            steps: vec![in alloc; steps; MAX_ROWS]?,
+            is_folded,
         })
     }
 
@@ -183,13 +218,20 @@ impl Edges {
         for arrow in arrows {
             let edge = edge_at(&self.charges, arrow.to).saturating_add(GAP);
             least = least
-                .max(edge.saturating_add(half_charge(arrow)))
+                .max(edge.saturating_add(half_charge(arrow, self.is_folded)))
                 .max(self.least_for_arrow(arrow));
             if is_downward(arrow) {
-                least = least.max(self.least_for_label(arrow.to, 0));
+                least = least
+                    .max(self.least_for_label(arrow.to, 0))
+                    .max(edge_at(&self.heads, arrow.to).saturating_add(GAP));
             }
         }
         least
+    }
+
+    /// Notes that the head of a lane, which is above it, has this right edge.
+    pub fn note_head(&mut self, lane: usize, edge: u32) {
+        set_edge(&mut self.heads, lane, edge);
     }
 
     /// Returns the least x at which a row of the axis has space for a step.
@@ -224,7 +266,7 @@ impl Edges {
     pub fn reach(&self, lanes: &[Lane<'_>], column: &Column<'_>, charges: &[Arrow<'_>]) -> u32 {
         let mut half = half_label(column).max(half_step(column));
         for arrow in charges {
-            half = half.max(half_charge(arrow));
+            half = half.max(half_charge(arrow, self.is_folded));
         }
         column
             .x
@@ -237,7 +279,7 @@ impl Edges {
             set_edge(
                 &mut self.charges,
                 arrow.to,
-                x.saturating_add(half_charge(arrow)),
+                x.saturating_add(half_charge(arrow, self.is_folded)),
             );
             if is_downward(arrow) {
                 let edge = edge_at(&self.labels, arrow.to).max(x);

@@ -21,7 +21,7 @@ text{font:12px sans-serif;fill:#1f2328}\n\
 .hd{font:bold 15px Menlo,Consolas,'DejaVu Sans Mono',monospace}\n\
 .nm{font:bold 13px Menlo,Consolas,'DejaVu Sans Mono',monospace}\n\
 .lb{font:11px Menlo,Consolas,'DejaVu Sans Mono',monospace}\n\
-.ha{paint-order:stroke;stroke:#fff;stroke-width:4px}\n\
+.ha{paint-order:stroke;stroke:#fff;stroke-width:4px;stroke-linejoin:round}\n\
 .gy{fill:#59636e}\n\
 .rd{fill:#c4302b}\n\
 .gn{fill:#1a7f4b}\n\

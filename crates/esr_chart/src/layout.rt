@@ -3,9 +3,11 @@
 //!
 //! Each mark has its own column. The distance of two columns is such that the labels of a lane do not overlap; the
 //! labels of two lanes cannot overlap. Columns that are too many for one row continue in a further band below, with the
-//! lanes of the transactions that are active there.
+//! lanes of the transactions that are active there. For each band, and for each lane in it, only the rows are reserved
+//! that it needs.
 
 use crate::edges::{Edges, outcome_width, step_rows};
+use crate::limits::has_bar;
 use crate::scene::{Action, Arrow, Lane, Mark};
 use crate::titles::kind_of;
 use esr_history::MAX_LIMIT;
@@ -18,19 +20,41 @@ const LETTER: u32 = 7;
 /// The width of a letter of a name.
 const NAME_LETTER: u32 = 8;
 
+/// The maximum width of the limit and the charges of a transaction in one row.
+const MAX_AMOUNTS: u32 = 340;
+
 /// The least distance of two labels.
 pub const GAP: u32 = 8;
 
 /// The left edge of the picture.
 pub const MARGIN: u32 = 20;
 
-/// The height of the lane of an update, and of that of a query.
-const UPDATE_HEIGHT: u32 = 66;
+/// The height of a lane up to the lower edge of the values below it.
+const VALUES_HEIGHT: u32 = 46;
 
-const QUERY_HEIGHT: u32 = 104;
+/// From the last row of a lane to the next lane.
+const LANE_GAP: u32 = 6;
+
+/// From the arrows of charges that end at a query to the head above the next lane.
+const ARROW_GAP: u32 = 12;
+
+/// The height of the four rows in front of a lane.
+const HEAD_HEIGHT: u32 = 66;
+
+/// From the arrows of charges that end at a query to the next lane, if the heads are in front of the lanes.
+const ARROW_LENGTH: u32 = 17;
+
+/// From row to row of the texts of a lane.
+pub const TEXT_ROW: u32 = 13;
+
+/// The height of the name above a lane, and of the rows below it.
+const NAME_HEIGHT: u32 = 20;
 
 /// From row to row of the axis.
 pub const STEP_ROW: u32 = 13;
+
+/// From band to band.
+const BAND_GAP: u32 = 14;
 
 /// What is drawn: marks and charges in the order of their entries.
 #[derive(Clone, Copy)]
@@ -45,13 +69,26 @@ pub struct Drawn<'a, 'b> {
 pub struct Spacing {
     pub has_all_labels: bool,
     pub pitch: u32,
+    /// Whether reads that are off and charges have two values one below the other.
+    pub is_folded: bool,
 }
 
-/// The width of the bands, unless one event is wider, and their maximum number.
+/// The place of the names, limits and charges of transactions.
+#[derive(Clone, Copy)]
+pub enum Heads {
+    /// In front of the lanes.
+    InFront,
+    /// Above the lanes, which then take the whole width.
+    Above,
+}
+
+/// The width of the bands, unless one event is wider, their maximum number, and the maximum height of them together.
 #[derive(Clone, Copy)]
 pub struct Format {
     pub width: u32,
     pub bands: usize,
+    pub height: u32,
+    pub heads: Heads,
 }
 
 /// A mark with its column.
@@ -60,6 +97,7 @@ pub struct Column<'a> {
     pub mark: Mark<'a>,
     pub x: u32,
     pub has_label: bool,
+    pub is_folded: bool,
     /// The row of its step on the axis.
     pub row: usize,
 }
@@ -67,8 +105,10 @@ pub struct Column<'a> {
 /// The part of a lane in a band.
 #[derive(Clone, Copy)]
 pub struct Span {
-    /// The upper edge below that of the band.
+    /// The upper edge below that of the band, without the name above the lane.
     top: u32,
+    /// The height of the name above the lane, and of the rows below it.
+    head: u32,
     pub start: u32,
     pub end: u32,
     /// False if the transaction is not active in the band.
@@ -77,6 +117,9 @@ pub struct Span {
     pub has_head: bool,
     /// True if it ends in the band, or is active after the last one.
     pub has_outcome: bool,
+    /// True if a charge of the band is to its transaction.
+    has_charges: bool,
+    is_folded: bool,
 }
 
 /// Columns next to each other, with the lanes of the transactions that are active there.
@@ -92,6 +135,7 @@ pub struct Band<'a> {
     pub left: u32,
     /// The number of rows of the axis.
     rows: u32,
+    heads: Heads,
 }
 
 /// The bands of a timeline.
@@ -100,7 +144,7 @@ pub struct Layout<'a> {
     pub bands: Vec<Band<'a>>,
     /// The right edge of all lanes and their outcomes.
     pub right: u32,
-    /// False if there are more columns than the bands have.
+    /// False if there are more columns than the bands have, or the bands are too high.
     pub is_complete: bool,
 }
 
@@ -109,25 +153,74 @@ pub fn width_of(letters: usize) -> u32 {
     (letters.min(400) as u32).saturating_mul(LETTER)
 }
 
-/// Returns the letters in front of a lane.
-fn head_width(lane: &Lane<'_>) -> u32 {
-    let limit = if lane.limit >= MAX_LIMIT {
+/// Returns the letters of the limit of a transaction.
+fn limit_letters(lane: &Lane<'_>) -> usize {
+    if lane.limit >= MAX_LIMIT {
         8
     } else {
         number_letters(lane.limit).saturating_add(6)
-    };
-    let charged = number_letters(lane.charged).saturating_add(8);
-    let name = (lane.name.len().min(100) as u32).saturating_mul(NAME_LETTER);
-    width_of(limit.max(charged).max(kind_of(lane).len())).max(name)
+    }
 }
 
-/// Returns the width of the texts in front of the lanes.
-fn heads_width(lanes: &[Lane<'_>]) -> u32 {
-    let mut width = 0u32;
+/// Returns the letters of the charges of a transaction.
+fn charged_letters(lane: &Lane<'_>) -> usize {
+    number_letters(lane.charged).saturating_add(8)
+}
+
+/// Returns the width of the name of a transaction.
+pub fn name_width(lane: &Lane<'_>) -> u32 {
+    (lane.name.len().min(100) as u32).saturating_mul(NAME_LETTER)
+}
+
+/// Returns the width of the limit of a transaction.
+pub fn limit_width(lane: &Lane<'_>) -> u32 {
+    width_of(limit_letters(lane))
+}
+
+/// Returns the width of the texts in front of a lane.
+fn head_width(lane: &Lane<'_>) -> u32 {
+    let letters = limit_letters(lane).max(charged_letters(lane));
+    width_of(letters.max(kind_of(lane).len())).max(name_width(lane))
+}
+
+/// Returns the width of the limit and the charges above a lane, in one row.
+fn amounts_width(lane: &Lane<'_>) -> u32 {
+    let charged = width_of(charged_letters(lane));
+    limit_width(lane)
+        .saturating_add(charged)
+        .saturating_add(GAP)
+}
+
+/// Returns whether the limit and the charges above a lane are in one row.
+pub fn fits_one_row(lane: &Lane<'_>) -> bool {
+    amounts_width(lane) <= MAX_AMOUNTS
+}
+
+/// Returns the width of the texts above a lane.
+fn width_above(lane: &Lane<'_>) -> u32 {
+    let name = name_width(lane)
+        .saturating_add(GAP)
+        .saturating_add(width_of(kind_of(lane).len()));
+    let amounts = if fits_one_row(lane) {
+        amounts_width(lane)
+    } else {
+        limit_width(lane).max(width_of(charged_letters(lane)))
+    };
+    name.max(amounts)
+}
+
+/// Returns the left edge of the lanes, and the right edge of the texts above them.
+fn heads_edges(lanes: &[Lane<'_>], heads: Heads) -> (u32, u32) {
+    let mut front = 0u32;
+    let mut above = 0u32;
     for lane in lanes {
-        width = width.max(head_width(lane));
+        front = front.max(head_width(lane));
+        above = above.max(width_above(lane));
     }
-    width
+    match heads {
+        Heads::InFront => (front.saturating_add(MARGIN + 4), 0),
+        Heads::Above => (MARGIN, above.saturating_add(MARGIN)),
+    }
 }
 
 /// Returns the charges from one entry on and before another, among charges in the order of their entries.
@@ -163,6 +256,7 @@ fn column_of<'a>(
         mark: *mark,
         x: x.saturating_add(spacing.pitch),
         has_label: spacing.has_all_labels || mark.is_key,
+        is_folded: spacing.is_folded,
         row: 0,
     };
     let charges = charges_at(drawn.arrows, mark.place);
@@ -171,14 +265,20 @@ fn column_of<'a>(
     column
 }
 
+/// Notes the texts above the lane of a transaction that begins at a mark.
+fn note_head(lanes: &[Lane<'_>], edges: &mut Edges, mark: &Mark<'_>, heads: Heads) {
+    if let (Action::Begin, Heads::Above, Some(lane)) = (mark.action, heads, lanes.get(mark.lane)) {
+        edges.note_head(mark.lane, MARGIN.saturating_add(width_above(lane)));
+    }
+}
+
 /// Returns the columns of a band from the mark at an index on, as many as fit, and one at least.
 fn columns_from<'a>(
     alloc: Global,
     drawn: Drawn<'a, '_>,
     from: usize,
     edges: &mut Edges,
-    spacing: Spacing,
-    limit: u32,
+    (spacing, format, limit): (Spacing, Format, u32),
 ) -> Result<Vec<Column<'a>>, AllocError> {
     let mut columns: Vec<Column<'a>> = Vec::new(alloc);
     let mut x = edges.left();
@@ -189,10 +289,23 @@ fn columns_from<'a>(
             break;
         }
         edges.note(drawn.lanes, &column, charges);
+        note_head(drawn.lanes, edges, mark, format.heads);
         x = column.x;
         columns.push(column)?;
     }
     Ok(columns)
+}
+
+/// Returns the right edges of the names above the lanes, or 0 for each lane if the names are in front of the lanes.
+fn name_edges(alloc: Global, lanes: &[Lane<'_>], heads: Heads) -> Result<Vec<u32>, AllocError> {
+    let mut edges = Vec::with_capacity(alloc, lanes.len())?;
+    for lane in lanes {
+        edges.push(match heads {
+            Heads::InFront => 0,
+            Heads::Above => MARGIN.saturating_add(name_width(lane)),
+        })?;
+    }
+    Ok(edges)
 }
 
 /// Returns the columns of the next band, and raises the right edge of all labels.
@@ -202,10 +315,11 @@ fn next_columns<'a>(
     from: usize,
     left: u32,
     farthest: &mut u32,
-    (spacing, limit): (Spacing, u32),
+    (spacing, format, limit): (Spacing, Format, u32),
 ) -> Result<Vec<Column<'a>>, AllocError> {
-    let mut edges = Edges::new(alloc, drawn.lanes.len(), left)?;
-    let columns = columns_from(alloc, drawn, from, &mut edges, spacing, limit)?;
+    let names = name_edges(alloc, drawn.lanes, format.heads)?;
+    let mut edges = Edges::new(alloc, names, left, spacing.is_folded)?;
+    let columns = columns_from(alloc, drawn, from, &mut edges, (spacing, format, limit))?;
     let last = columns.last().map_or(left, |column| column.x);
     *farthest = edges.farthest().max(last).max(*farthest);
     Ok(columns)
@@ -265,36 +379,74 @@ fn span_of(columns: &[Column<'_>], life: Life, left: u32, open_end: u32, is_last
     let end = x_of(columns, life.end);
     Span {
         top: 0,
+        head: 0,
         start: start.unwrap_or(left),
         end: end.unwrap_or(open_end),
         is_drawn: is_active(columns, life),
         has_head: start.is_some(),
         has_outcome: end.is_some() || (is_last && life.end.is_none()),
+        has_charges: false,
+        is_folded: columns.first().is_some_and(|column| column.is_folded),
     }
 }
 
-/// Returns the height of the part of a lane.
-fn height_of(lane: &Lane<'_>, span: &Span) -> u32 {
-    match (span.is_drawn, lane.is_query()) {
-        (false, _) => 0,
-        (true, false) => UPDATE_HEIGHT,
-        (true, true) => QUERY_HEIGHT,
+/// Returns the height of the texts above the part of a lane.
+fn head_height(lane: &Lane<'_>, span: &Span) -> u32 {
+    match (span.has_head, fits_one_row(lane)) {
+        (false, _) => NAME_HEIGHT,
+        (true, true) => NAME_HEIGHT + TEXT_ROW,
+        (true, false) => NAME_HEIGHT + 2 * TEXT_ROW,
     }
+}
+
+/// Returns the height of the part of a lane, without the texts above it.
+fn body_height(lane: &Lane<'_>, span: &Span, heads: Heads) -> u32 {
+    let gap = match heads {
+        Heads::InFront if span.has_charges => ARROW_LENGTH,
+        Heads::Above if span.has_charges => ARROW_GAP,
+        _ => LANE_GAP,
+    };
+    let bottom = if lane.is_query() {
+        span.content_bottom(has_bar(lane))
+    } else {
+        VALUES_HEIGHT
+    };
+    let height = bottom.saturating_add(gap);
+    match heads {
+        Heads::InFront if span.has_head => height.max(HEAD_HEIGHT),
+        _ => height,
+    }
+}
+
+/// Places the part of a lane at this height of a band. Returns the height below it.
+fn place_span(span: &mut Span, lane: &Lane<'_>, heads: Heads, top: u32) -> u32 {
+    if !span.is_drawn {
+        return top;
+    }
+    span.head = match heads {
+        Heads::InFront => 0,
+        Heads::Above => head_height(lane, span),
+    };
+    span.top = top.saturating_add(span.head);
+    span.top.saturating_add(body_height(lane, span, heads))
 }
 
 /// Adds the parts of the lanes in a band, one below another.
 fn push_spans(
     band: &mut Band<'_>,
-    lanes: &[Lane<'_>],
+    drawn: Drawn<'_, '_>,
     lives: &[Life],
     open_end: u32,
     is_last: bool,
 ) -> Result<(), AllocError> {
-    for (lane, life) in lanes.iter().zip(lives.iter()) {
+    let charges = charges_between(drawn.arrows, band.first_place(), band.end_place());
+    let mut number = 0usize;
+    for (lane, life) in drawn.lanes.iter().zip(lives.iter()) {
         let mut span = span_of(&band.columns, *life, band.left, open_end, is_last);
-        span.top = band.height;
-        band.height = band.height.saturating_add(height_of(lane, &span));
+        span.has_charges = charges.iter().any(|charge| charge.to == number);
+        band.height = place_span(&mut span, lane, band.heads, band.height);
         band.spans.push(span)?;
+        number = number.saturating_add(1);
     }
     Ok(())
 }
@@ -311,7 +463,7 @@ fn open_width(lanes: &[Lane<'_>], lives: &[Life]) -> u32 {
 }
 
 /// Returns a band without lanes.
-fn band_of<'a>(alloc: Global, columns: Vec<Column<'a>>, left: u32) -> Band<'a> {
+fn band_of<'a>(alloc: Global, columns: Vec<Column<'a>>, left: u32, heads: Heads) -> Band<'a> {
     let rows = step_rows(&columns);
     Band {
         columns,
@@ -320,6 +472,7 @@ fn band_of<'a>(alloc: Global, columns: Vec<Column<'a>>, left: u32) -> Band<'a> {
         height: 0,
         left,
         rows,
+        heads,
     }
 }
 
@@ -328,16 +481,16 @@ fn bands_of<'a>(
     alloc: Global,
     drawn: Drawn<'a, '_>,
     farthest: &mut u32,
-    rule: (Spacing, u32),
-    bands: usize,
+    rule: (Spacing, Format, u32),
 ) -> Result<Vec<Band<'a>>, AllocError> {
+    let (_, format, _) = rule;
     let left = *farthest;
     let mut all = Vec::new(alloc);
     let mut from = 0usize;
-    for _ in 0..bands {
+    for _ in 0..format.bands {
         let columns = next_columns(alloc, drawn, from, left, farthest, rule)?;
         from = from.saturating_add(columns.len());
-        all.push(band_of(alloc, columns, left))?;
+        all.push(band_of(alloc, columns, left, format.heads))?;
         if from >= drawn.marks.len() {
             break;
         }
@@ -369,7 +522,7 @@ fn outcomes_edge(lanes: &[Lane<'_>], band: &Band<'_>) -> u32 {
 /// Adds the lanes to the bands. Returns the right edge of the outcomes.
 fn fill_bands(
     bands: &mut [Band<'_>],
-    lanes: &[Lane<'_>],
+    drawn: Drawn<'_, '_>,
     lives: &[Life],
     open_end: u32,
 ) -> Result<u32, AllocError> {
@@ -377,11 +530,20 @@ fn fill_bands(
     let mut right = open_end;
     let mut number = 0usize;
     for band in bands {
-        push_spans(band, lanes, lives, open_end, number == last)?;
-        right = right.max(outcomes_edge(lanes, band));
+        push_spans(band, drawn, lives, open_end, number == last)?;
+        right = right.max(outcomes_edge(drawn.lanes, band));
         number = number.saturating_add(1);
     }
     Ok(right)
+}
+
+/// Returns the height of some bands together.
+fn height_of(bands: &[Band<'_>]) -> u32 {
+    let mut height = 0u32;
+    for band in bands {
+        height = height.saturating_add(band.full_height());
+    }
+    height
 }
 
 /// Returns the sizes of a timeline without its heading.
@@ -393,17 +555,60 @@ pub fn layout_of<'a>(
 ) -> Result<Layout<'a>, AllocError> {
     let lives = lives_of(alloc, drawn)?;
     let limit = format.width.saturating_sub(open_width(drawn.lanes, &lives));
-    let mut farthest = heads_width(drawn.lanes).saturating_add(MARGIN + 4);
-    let rule = (spacing, limit);
-    let mut bands = bands_of(alloc, drawn, &mut farthest, rule, format.bands)?;
+    let (mut farthest, above) = heads_edges(drawn.lanes, format.heads);
+    let rule = (spacing, format, limit);
+    let mut bands = bands_of(alloc, drawn, &mut farthest, rule)?;
     let open_end = farthest.saturating_add(GAP);
-    let right = fill_bands(&mut bands, drawn.lanes, &lives, open_end)?;
-    let is_complete = count_columns(&bands) == drawn.marks.len();
+    let right = fill_bands(&mut bands, drawn, &lives, open_end)?;
+    let has_all = count_columns(&bands) == drawn.marks.len();
+    let is_complete = has_all && height_of(&bands) <= format.height;
     Ok(Layout {
         bands,
-        right,
+        right: right.max(above),
         is_complete,
     })
+}
+
+impl Span {
+    /// Returns the rows below the lane of a query that the second values of its reads take.
+    fn second_row(&self) -> u32 {
+        if self.is_folded { TEXT_ROW } else { 0 }
+    }
+
+    /// Returns the baseline of the amount of a charge, below the upper edge of the lane. The change is on the next row, or
+    /// on the next two.
+    pub fn amount_row(&self) -> u32 {
+        self.second_row().saturating_add(57)
+    }
+
+    /// Returns the upper edge of the bar of the limit, below that of the lane.
+    pub fn bar_row(&self) -> u32 {
+        let charges = if self.has_charges {
+            self.second_row().saturating_add(26)
+        } else {
+            0
+        };
+        self.second_row().saturating_add(charges).saturating_add(49)
+    }
+
+    /// Returns the end of an arrow from below, below the upper edge of the lane.
+    pub fn arrow_row(&self) -> u32 {
+        self.bar_row().saturating_add(12)
+    }
+
+    /// Returns the lower edge of the content below the lane of a query, which may have a bar.
+    fn content_bottom(&self, has_bar: bool) -> u32 {
+        if self.has_charges || has_bar {
+            self.arrow_row()
+        } else {
+            self.second_row().saturating_add(VALUES_HEIGHT)
+        }
+    }
+
+    /// Returns the upper edge of the texts above the lane, below that of the band.
+    fn head_top(&self) -> u32 {
+        self.top.saturating_sub(self.head)
+    }
 }
 
 impl<'a> Band<'a> {
@@ -411,29 +616,42 @@ impl<'a> Band<'a> {
     pub fn span(&self, lane: usize) -> Span {
         let none = Span {
             top: 0,
+            head: 0,
             start: 0,
             end: 0,
             is_drawn: false,
             has_head: false,
             has_outcome: false,
+            has_charges: false,
+            is_folded: false,
         };
         self.spans.get(lane).copied().unwrap_or(none)
     }
 
-    /// Returns the upper edge of a lane.
+    /// Returns the upper edge of a lane, without the texts above it.
     pub fn lane_top(&self, lane: usize) -> u32 {
         self.top.saturating_add(self.span(lane).top)
+    }
+
+    /// Returns the upper edge of the texts in front of a lane or above it.
+    pub fn head_top(&self, lane: usize) -> u32 {
+        self.top.saturating_add(self.span(lane).head_top())
+    }
+
+    /// Returns whether the names, limits and charges are above the lanes.
+    pub fn has_heads_above(&self) -> bool {
+        matches!(self.heads, Heads::Above)
+    }
+
+    /// Returns its height with the axis and the distance to the next one.
+    fn full_height(&self) -> u32 {
+        let axis = self.rows.saturating_mul(STEP_ROW).saturating_add(6);
+        self.height.saturating_add(axis).saturating_add(BAND_GAP)
     }
 
     /// Returns the lower edge of the lanes.
     pub fn floor(&self) -> u32 {
         self.top.saturating_add(self.height)
-    }
-
-    /// Returns the lower edge of the axis.
-    pub fn bottom(&self) -> u32 {
-        let axis = self.rows.saturating_mul(STEP_ROW).saturating_add(6);
-        self.floor().saturating_add(axis)
     }
 
     /// Returns the place of the entry of its first column.
@@ -459,7 +677,7 @@ impl Layout<'_> {
         let mut bottom = top;
         for band in &mut self.bands {
             band.top = bottom;
-            bottom = band.bottom().saturating_add(14);
+            bottom = band.top.saturating_add(band.full_height());
         }
         bottom
     }

@@ -24,6 +24,8 @@ pub use head::{
     Size, Sizes, open_narrow, prefix_of, push_attributes, push_background, push_head,
     push_heading_words,
 };
-pub use layout::{Band, Drawn, Format, Layout, MARGIN, Spacing, layout_of};
+pub use layout::{Band, Drawn, Format, Heads, Layout, MARGIN, Spacing, layout_of};
 pub use legend::{legend_height, push_legend};
-pub use scene::{Action, Arrow, Cause, Lane, Mark, Order, Relation, Rest, Scene};
+pub use scene::{
+    Action, Arrow, Cause, Farthest, Lane, Mark, Nearest, Order, Reason, Relation, Rest, Scene,
+};

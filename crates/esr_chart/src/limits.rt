@@ -9,9 +9,6 @@ use std::alloc::AllocError;
 /// The height of a bar.
 const HEIGHT: u32 = 10;
 
-/// From the upper edge of a lane to its bar.
-const BELOW: u32 = 75;
-
 /// Returns the height of an amount in a bar, at least 2 if there is any.
 fn height_of(amount: u64, limit: u64) -> u32 {
     let share = u128::from(amount.min(limit))
@@ -98,8 +95,8 @@ pub fn push_limit(
     if !has_bar(lane) {
         return Ok(());
     }
-    let top = band.lane_top(number).saturating_add(BELOW);
     let span = band.span(number);
+    let top = band.lane_top(number).saturating_add(span.bar_row());
     push_parts(out, scene, band, number, lane.limit, top)?;
     let width = span.end.saturating_sub(span.start);
     push_rect(out, "lf", span.start, top, width, HEIGHT)

@@ -65,9 +65,11 @@ pub struct Mark<'a> {
     pub action: Action,
     /// The name of the item, or nothing.
     pub item: &'a str,
+    /// The factor of differences of the item, or 1.
+    pub weight: u64,
     /// The transaction that blocked the event, or nothing.
     pub blocker: &'a str,
-    /// True if a drawn charge depends on it, or if it was blocked.
+    /// True if a drawn charge depends on it, if it was blocked, or if it is a read that is off.
     pub is_key: bool,
 }
 
@@ -89,9 +91,11 @@ pub struct Arrow<'a> {
     /// The values whose difference was charged.
     pub old: i64,
     pub new: i64,
-    /// The greatest distance of an item whose reads the charge explains, or 0.
+    /// The distance of the reads that the charge explains, or 0.
     pub explained: u64,
     pub relation: Relation,
+    /// The number of its group: charges that explain the same reads.
+    pub group: usize,
 }
 
 impl Arrow<'_> {
@@ -107,9 +111,9 @@ impl Arrow<'_> {
 pub enum Relation {
     /// It is for a write of the value that the item has in the nearest placement.
     WritesNearest,
-    /// It is for the item.
+    /// It is for an earlier write of the item, or for the read itself.
     SameItem,
-    /// It is for another item, by the update that wrote the value that was read.
+    /// It is for a write by the update that wrote the value that was read.
     SameWriter,
 }
 
@@ -124,11 +128,47 @@ pub enum Order {
     ByTransaction,
 }
 
+/// The nearest placement of a query that is off.
+#[derive(Clone, Copy)]
+pub struct Nearest<'a> {
+    pub query: &'a str,
+    /// The number of updates before it.
+    pub updates: u64,
+    /// The name of the one of them that committed last, or nothing.
+    pub last: &'a str,
+    /// The step in which that update committed.
+    pub step: u64,
+}
+
+/// A charge as the reason why a read is off.
+#[derive(Clone, Copy)]
+pub struct Reason<'a> {
+    pub update: &'a str,
+    pub item: &'a str,
+    /// The step of the event that was charged.
+    pub step: u64,
+    /// True if the query read an uncommitted change, false if the update changed what the query had read.
+    pub is_read: bool,
+}
+
+/// The read of a query with the greatest distance.
+#[derive(Clone, Copy)]
+pub struct Farthest<'a> {
+    pub query: &'a str,
+    pub item: &'a str,
+    pub step: u64,
+    /// The update that wrote the value, if it is not before the nearest placement, or nothing.
+    pub writer: &'a str,
+    pub reason: Option<Reason<'a>>,
+}
+
 /// The numbers of transactions, events and charges that are not drawn.
 #[derive(Clone, Copy)]
 pub struct Rest {
     pub transactions: u64,
     pub events: u64,
+    /// The number of those events that are reads that are off.
+    pub off_reads: u64,
     pub charges: u64,
     /// The sum of the charges that are not drawn.
     pub amount: u64,
@@ -146,4 +186,8 @@ pub struct Scene<'a> {
     pub all_charges: Vec<Arrow<'a>>,
     pub order: Order,
     pub rest: Rest,
+    /// The nearest placement of the query that the timeline is about, or of the farthest one, if that is off.
+    pub nearest: Option<Nearest<'a>>,
+    /// The farthest read of that query, if it is off.
+    pub farthest: Option<Farthest<'a>>,
 }

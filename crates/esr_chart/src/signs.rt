@@ -1,7 +1,7 @@
 //! The marks of a band with their labels.
 
 use crate::elements::{close_text, open_centred, push_circle, push_cross, push_square};
-use crate::layout::{Band, Column};
+use crate::layout::{Band, Column, TEXT_ROW};
 use crate::scene::{Action, Cause, Lane, Scene};
 use crate::titles::push_mark_title;
 use esr_text::{push_number, push_value};
@@ -30,11 +30,23 @@ fn push_mark_value(out: &mut String, value: i64, x: u32, y: u32) -> Result<(), A
     close_text(out)
 }
 
-/// Appends the value of a read that is off, and the value in the nearest placement.
-fn push_values(out: &mut String, value: i64, there: i64, x: u32, y: u32) -> Result<(), AllocError> {
-    open_centred(out, "lb rd ha", x, y)?;
+/// Appends the value of a read that is off, and after it or below it the value in the nearest placement.
+fn push_values(
+    out: &mut String,
+    column: &Column<'_>,
+    value: i64,
+    there: i64,
+    y: u32,
+) -> Result<(), AllocError> {
+    open_centred(out, "lb rd ha", column.x, y)?;
     push_value(out, value)?;
-    out.push_str(" not ")?;
+    if column.is_folded {
+        close_text(out)?;
+        open_centred(out, "lb rd ha", column.x, y.saturating_add(TEXT_ROW))?;
+    } else {
+        out.push(' ')?;
+    }
+    out.push_str("not ")?;
     push_value(out, there)?;
     close_text(out)
 }
@@ -90,7 +102,7 @@ fn push_value_label(
         Action::Read {
             value,
             nearest: Some(there),
-        } => push_values(out, value, there, column.x, y),
+        } => push_values(out, column, value, there, y),
         Action::Write { value } => push_mark_value(out, value, column.x, y),
         Action::Blocked { cause, times, .. } => push_blocker(out, lane, column, (cause, times), y),
         Action::Begin | Action::Commit | Action::Abort => Ok(()),

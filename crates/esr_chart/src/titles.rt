@@ -127,7 +127,13 @@ pub fn push_charge_title(
 /// Appends the values whose difference was charged, and how often if more than once.
 pub fn push_change(out: &mut String, arrow: &Arrow<'_>) -> Result<(), AllocError> {
     push_value(out, arrow.old)?;
-    out.push_str(" to ")?;
+    out.push(' ')?;
+    push_new(out, arrow)
+}
+
+/// Appends the second of the values whose difference was charged, and how often if more than once.
+pub fn push_new(out: &mut String, arrow: &Arrow<'_>) -> Result<(), AllocError> {
+    out.push_str("to ")?;
     push_value(out, arrow.new)?;
     let reads = arrow.reads();
     if reads > 1 {
