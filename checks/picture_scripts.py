@@ -109,6 +109,19 @@ def strict():
     return script.text(), "q"
 
 
+def follower(count):
+    """Returns a report that reads a value of an update that was not charged, and that follows a charged one over `count` others."""
+    script = Script([(f"x{i}", 100) for i in range(count + 2)])
+    script.query("q")
+    script.read("q", "x0")
+    script.update("payer", [("x0", 900), ("x1", 300)])
+    for i in range(count):
+        script.update(f"follower{i}", [(f"x{i + 2}", 200)], reads=[f"x{i + 1}"])
+    script.read("q", f"x{count + 1}")
+    script.lines.append("commit q")
+    return script.text(), "q"
+
+
 def unwritten(count, written):
     """Returns a report that reads `count` items, of which two updates write some."""
     script = Script([(f"x{i}", 100) for i in range(count)])
@@ -160,6 +173,8 @@ def edges():
     yield ("hidden",) + hidden(180, 20)
     yield ("hidden_often",) + hidden(90, 2)
     yield ("strict",) + strict()
+    yield ("follower",) + follower(1)
+    yield ("follower_far",) + follower(20)
     yield ("error",) + errors(1)
     yield ("errors",) + errors(9)
     yield ("one_item",) + one_item(12, 1)

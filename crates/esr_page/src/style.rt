@@ -1,7 +1,8 @@
 //! The fixed parts of the page: its head with the style, and the script that sorts the table. On a wide screen the
 //! first sentences about the farthest query are above its timeline and its picture, so that all three are on the first
-//! screen. Timeline and picture are next to each other, reduced until one is pressed. On paper the buttons of the
-//! table's head have no boxes: a head that has any is not repeated on each sheet.
+//! screen. Timeline and picture are next to each other. Until one is pressed, each is reduced, but not so far that its texts
+//! are illegible, and scrolls by itself. On paper the buttons of the table's head have no boxes: a head that has any is not
+//! repeated on each sheet.
 
 /// The head, and the start of the body.
 pub fn head() -> &'static str {
@@ -74,7 +75,7 @@ tr:target,section:target h3{outline:2px solid var(--link)}
 .origin{color:var(--dim);margin-top:0}
 .errors{border:2px solid var(--off);border-radius:6px;padding:0 12px;color:var(--off)}
 .errors p,.errors ul{margin:6px 0}
-@media (min-width:1200px){main{max-width:1240px}dl{margin:.5em 0}h2{margin-top:.6em}main>section:first-of-type{display:flex;flex-direction:column}main>section:first-of-type>:is(h3,h3+.seen+p){order:-1}main>section:first-of-type h3{margin:0}main>section:first-of-type>h3+.seen+p{margin:.3em 0 .6em;max-width:none}main>section:first-of-type .seen{gap:0 16px}main>section:first-of-type .wide{flex:2 1 0}main>section:first-of-type .wide:first-child{flex:3 1 0}main>section:first-of-type .wide:not(:focus) svg{max-width:100%;max-height:42vh;height:auto;cursor:zoom-in}main>section:first-of-type .wide:focus{flex:1 0 100%}main>section:first-of-type .seen::after{content:'Press a picture to enlarge it.';flex:1 0 100%;color:var(--dim)}}
+@media (min-width:1200px){main{max-width:1240px}dl{margin:.5em 0}h2{margin-top:.6em}main>section:first-of-type{display:flex;flex-direction:column}main>section:first-of-type>:is(h3,h3+.seen+p){order:-1}main>section:first-of-type h3{margin:0}main>section:first-of-type>h3+.seen+p{margin:.3em 0 .6em;max-width:none}main>section:first-of-type .seen{gap:0 16px}main>section:first-of-type .wide{flex:0 1 auto;max-width:calc(42% - 8px)}main>section:first-of-type .wide:first-child{flex:1 1 0;max-width:none}main>section:first-of-type .wide:not(:focus){max-height:44vh;overflow-y:auto}main>section:first-of-type .wide:not(:focus) svg{max-width:max(100%,700px);height:auto;cursor:zoom-in}main>section:first-of-type .wide:focus{flex:1 0 100%;max-width:100%}main>section:first-of-type .seen::after{content:'Each picture scrolls; press it to enlarge it.';flex:1 0 100%;color:var(--dim)}}
 @media print{.fold tbody tr:nth-child(n+51):not(:target){display:table-row}th button{display:contents}*{-webkit-print-color-adjust:exact;print-color-adjust:exact}.wide{overflow:visible}.wide svg{max-width:100%;height:auto}.chart li{flex:1 1 0}table{font-size:.7em}th,td{padding:2px 5px}h2,h3{break-after:avoid}section .wide{break-inside:avoid-page}}
 </style>
 </head>

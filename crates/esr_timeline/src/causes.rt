@@ -1,8 +1,12 @@
 //! Which charges explain the reads that are off.
 //!
-//! A read is off if the nearest placement has another value of its item. All charges for this item explain it. If the
-//! writer of the value is not before the placement, its charges for other items explain why it is not.
+//! A read is off if the nearest placement has another value of its item. If the writer of the value is not before the
+//! placement, the read was too late, and the charges by this writer, or by a charged update that it follows
+//! (`predecessors`), explain why it is not before it. Otherwise the read was too early, and the charges for the item by
+//! updates before the placement explain how the value changed since. Charges that explain the same reads are a group.
+//! Rejected: all charges for the item, since those after a read that was too late explain nothing.
 
+use crate::predecessors::ChargedPredecessors;
 use crate::source::Source;
 use esr_chart::{Arrow, Relation};
 use esr_history::{Event, TxnId};
@@ -11,15 +15,18 @@ use esr_outcomes::QueryAudit;
 use esr_trace::{ObservedRead, QueryTrace};
 use std::alloc::{AllocError, Global};
 
-/// The distances of the items of a query that are off, by what explains them. All are 0 if the query is not off.
+/// The distances of the reads of a query that are off, by what explains them. All are 0 if the query is not off.
 #[derive(Drop)]
 pub struct Causes {
-    /// For each item: its distance.
+    /// For each item: the distance of the reads of values that were replaced before the placement.
     by_item: Vec<u64>,
-    /// For each update by its number: the greatest distance of an item of which the query read its value too early.
+    /// For each update by its number: the distance of the reads of values that were written by it, or by updates that
+    /// follow it, and that are not before the placement.
     by_writer: Vec<u64>,
     /// For each update by its number: whether it is before the placement.
     is_before: Vec<bool>,
+    /// The charged updates that the updates that are not before the placement follow.
+    predecessors: ChargedPredecessors,
     /// The value of each item in the nearest placement.
     nearest: Vec<i64>,
 }
@@ -29,10 +36,10 @@ fn at(values: &[u64], index: u32) -> u64 {
     values.get(index as usize).copied().unwrap_or(0)
 }
 
-/// Replaces the element at an index if the value is greater.
-fn raise(values: &mut [u64], index: u32, value: u64) {
-    if let Some(greatest) = values.get_mut(index as usize) {
-        *greatest = value.max(*greatest);
+/// Adds a value to the element at an index.
+fn add(values: &mut [u64], index: u32, value: u64) {
+    if let Some(sum) = values.get_mut(index as usize) {
+        *sum = sum.saturating_add(value);
     }
 }
 
@@ -47,30 +54,13 @@ fn flags_of(alloc: Global, before: &[TxnId], count: usize) -> Result<Vec<bool>, 
     Ok(flags)
 }
 
-/// Returns the distance of reads of one value from the value in the nearest placement.
+/// Returns the distance of one read of a value from the value in the nearest placement.
 fn distance_of(source: Source<'_>, nearest: &[i64], observed: &ObservedRead) -> u64 {
     let Some(there) = nearest.get(observed.item.0 as usize) else {
         return 0;
     };
     let weight = source.history.metric().distance(observed.item, 0, 1);
-    let distance = observed.value.abs_diff(*there).saturating_mul(weight);
-    distance.saturating_mul(observed.count)
-}
-
-/// Returns the sum of the distances of the reads of each item.
-fn distances_of(
-    alloc: Global,
-    source: Source<'_>,
-    nearest: &[i64],
-    observed_reads: &[ObservedRead],
-) -> Result<Vec<u64>, AllocError> {
-    let mut distances = vec![in alloc; 0u64; source.history.items() as usize]?;
-    for observed in observed_reads {
-        if let Some(sum) = distances.get_mut(observed.item.0 as usize) {
-            *sum = sum.saturating_add(distance_of(source, nearest, observed));
-        }
-    }
-    Ok(distances)
+    observed.value.abs_diff(*there).saturating_mul(weight)
 }
 
 impl Causes {
@@ -80,6 +70,7 @@ impl Causes {
             by_item: Vec::new(alloc),
             by_writer: Vec::new(alloc),
             is_before: Vec::new(alloc),
+            predecessors: ChargedPredecessors::none(alloc),
             nearest: Vec::new(alloc),
         }
     }
@@ -89,21 +80,28 @@ impl Causes {
         self.is_before.get(update.0 as usize) == Some(&true)
     }
 
-    /// Notes a read that is off.
-    fn note(&mut self, observed: &ObservedRead) {
-        let distance = at(&self.by_item, observed.item.0);
-        if let Some(writer) = observed.writer
-            && !self.has_before(writer)
-        {
-            raise(&mut self.by_writer, writer.0, distance);
+    /// Returns the update whose charges explain a read that was too late, or nothing if it was too early.
+    pub fn late_cause(&self, observed: &ObservedRead) -> Option<TxnId> {
+        match observed.writer {
+            Some(writer) if !self.has_before(writer) => Some(self.predecessors.at(writer)),
+            _ => None,
+        }
+    }
+
+    /// Notes reads that have this distance.
+    fn note(&mut self, observed: &ObservedRead, distance: u64) {
+        match self.late_cause(observed) {
+            Some(cause) => add(&mut self.by_writer, cause.0, distance),
+            None => add(&mut self.by_item, observed.item.0, distance),
         }
     }
 
     /// Notes the reads that are off.
     fn note_all(&mut self, source: Source<'_>, observed_reads: &[ObservedRead]) {
         for observed in observed_reads {
-            if distance_of(source, &self.nearest, observed) > 0 {
-                self.note(observed);
+            let distance = distance_of(source, &self.nearest, observed);
+            if distance > 0 {
+                self.note(observed, distance.saturating_mul(observed.count));
             }
         }
     }
@@ -113,14 +111,16 @@ impl Causes {
         &mut self,
         alloc: Global,
         source: Source<'_>,
+        query: TxnId,
         audit: &QueryAudit,
         trace: &QueryTrace,
     ) -> Result<(), AllocError> {
         let count = source.history.begun_count().saturating_add(1);
         self.nearest = source.auditor.values_after(alloc, &audit.before)?;
-        self.by_item = distances_of(alloc, source, &self.nearest, &trace.observed_reads)?;
+        self.by_item = vec![in alloc; 0u64; source.history.items() as usize]?;
         self.by_writer = vec![in alloc; 0u64; count]?;
         self.is_before = flags_of(alloc, &audit.before, count)?;
+        self.predecessors = ChargedPredecessors::of(alloc, source, query, trace, &self.is_before)?;
         self.note_all(source, &trace.observed_reads);
         Ok(())
     }
@@ -129,11 +129,12 @@ impl Causes {
     fn of_audit(
         alloc: Global,
         source: Source<'_>,
+        query: TxnId,
         audit: &QueryAudit,
         trace: &QueryTrace,
     ) -> Result<Causes, AllocError> {
         let mut causes = Causes::none(alloc);
-        causes.fill(alloc, source, audit, trace)?;
+        causes.fill(alloc, source, query, audit, trace)?;
         Ok(causes)
     }
 
@@ -145,9 +146,34 @@ impl Causes {
         trace: &QueryTrace,
     ) -> Result<Causes, AllocError> {
         match source.auditor.summary(alloc, query)? {
-            Some(audit) if audit.distance > 0 => Causes::of_audit(alloc, source, &audit, trace),
+            Some(audit) if audit.distance > 0 => {
+                Causes::of_audit(alloc, source, query, &audit, trace)
+            }
             _ => Ok(Causes::none(alloc)),
         }
+    }
+
+    /// Returns the writers of the values of the farthest reads that were too late, at most `upper_bound` reads.
+    pub fn late_writers(
+        &self,
+        alloc: Global,
+        source: Source<'_>,
+        trace: &QueryTrace,
+        upper_bound: usize,
+    ) -> Result<Vec<TxnId>, AllocError> {
+        let mut ranks = Vec::new(alloc);
+        for observed in &trace.observed_reads {
+            let distance = distance_of(source, &self.nearest, observed);
+            if let Some(writer) = observed.writer
+                && distance > 0
+                && !self.has_before(writer)
+            {
+                ranks.push((u64::MAX.saturating_sub(distance), observed.place, writer.0))?;
+            }
+        }
+        ranks.sort_unstable();
+        ranks.truncate(upper_bound);
+        ranks.iter().map(|rank| TxnId(rank.2)).collect(alloc)
     }
 
     /// Returns whether an event of an update before the placement writes the value that the item has there.
@@ -158,19 +184,59 @@ impl Causes {
         self.has_before(update) && self.nearest.get(item.0 as usize) == Some(&value)
     }
 
-    /// Returns the greatest distance of an item whose reads a charge explains, or 0.
+    /// Returns the distance of the reads that a charge explains, or 0.
     pub fn explained(&self, update: TxnId, item: ItemId) -> u64 {
-        at(&self.by_writer, update.0).max(at(&self.by_item, item.0))
+        if self.has_before(update) {
+            at(&self.by_item, item.0)
+        } else {
+            at(&self.by_writer, update.0)
+        }
+    }
+
+    /// Returns the number of the group of an update that is not before the placement: the items are first.
+    fn group_after(&self, update: TxnId) -> usize {
+        self.by_item.len().saturating_add(update.0 as usize)
+    }
+
+    /// Returns the number of the group of a charge.
+    pub fn group(&self, update: TxnId, item: ItemId) -> usize {
+        if self.has_before(update) {
+            item.0 as usize
+        } else {
+            self.group_after(update)
+        }
+    }
+
+    /// Returns the number of the group of the charges that explain a read.
+    pub fn group_of(&self, observed: &ObservedRead) -> usize {
+        match self.late_cause(observed) {
+            Some(cause) => self.group_after(cause),
+            None => observed.item.0 as usize,
+        }
+    }
+
+    /// Returns the read with the greatest distance, of equal ones the first, if a read is off.
+    pub fn farthest(&self, source: Source<'_>, trace: &QueryTrace) -> Option<ObservedRead> {
+        let mut farthest = None;
+        let mut greatest = 0u64;
+        for observed in &trace.observed_reads {
+            let distance = distance_of(source, &self.nearest, observed);
+            if distance > greatest {
+                greatest = distance;
+                farthest = Some(*observed);
+            }
+        }
+        farthest
     }
 
     /// Returns how a charge for an event explains reads.
-    pub fn relation(&self, update: TxnId, item: ItemId, event: Event) -> Relation {
+    pub fn relation(&self, update: TxnId, event: Event) -> Relation {
         if self.writes_nearest(update, event) {
             Relation::WritesNearest
-        } else if at(&self.by_writer, update.0) > at(&self.by_item, item.0) {
-            Relation::SameWriter
-        } else {
+        } else if self.has_before(update) || matches!(event, Event::Read { .. }) {
             Relation::SameItem
+        } else {
+            Relation::SameWriter
         }
     }
 }
@@ -184,9 +250,10 @@ fn rank_of(relation: Relation) -> u8 {
     }
 }
 
-/// Returns the indices of some charges: first those that explain reads, the greatest distance first, and of those for one
-/// item the write of its value in the nearest placement, then those for the item; of equal ones the greatest amounts first.
-pub fn ranking(alloc: Global, arrows: &[Arrow<'_>]) -> Result<Vec<usize>, AllocError> {
+/// Returns the indices of some charges in the order of the distances that they explain, the greatest first; of those that
+/// explain the same, the write of the value in the nearest placement first, then those for the item, then the greatest
+/// amounts.
+fn sorted(alloc: Global, arrows: &[Arrow<'_>]) -> Result<Vec<usize>, AllocError> {
     let mut ranks = Vec::new(alloc);
     for (index, arrow) in arrows.iter().enumerate() {
         let explained = u64::MAX.saturating_sub(arrow.explained);
@@ -200,4 +267,44 @@ pub fn ranking(alloc: Global, arrows: &[Arrow<'_>]) -> Result<Vec<usize>, AllocE
     }
     ranks.sort_unstable();
     ranks.iter().map(|rank| rank.3).collect(alloc)
+}
+
+/// Returns the number of groups of these charges.
+fn count_groups(arrows: &[Arrow<'_>]) -> usize {
+    let mut count = 0usize;
+    for arrow in arrows {
+        count = count.max(arrow.group.saturating_add(1));
+    }
+    count
+}
+
+/// Returns how many charges of the group were before this one, and counts it. Charges that explain nothing are after all
+/// others.
+fn round_of(counts: &mut [usize], arrow: &Arrow<'_>) -> usize {
+    if arrow.explained == 0 {
+        return usize::MAX;
+    }
+    match counts.get_mut(arrow.group) {
+        Some(count) => {
+            let round = *count;
+            *count = round.saturating_add(1);
+            round
+        }
+        None => usize::MAX,
+    }
+}
+
+/// Returns the indices of some charges: of each group the charge that explains its reads best, the groups with the greatest
+/// distance first, then the second ones, and so on; then the charges that explain nothing, the greatest amounts first.
+pub fn ranking(alloc: Global, arrows: &[Arrow<'_>]) -> Result<Vec<usize>, AllocError> {
+    let sorted = sorted(alloc, arrows)?;
+    let mut counts = vec![in alloc; 0usize; count_groups(arrows)]?;
+    let mut ranks = Vec::new(alloc);
+    for (place, index) in sorted.iter().enumerate() {
+        if let Some(arrow) = arrows.get(*index) {
+            ranks.push((round_of(&mut counts, arrow), place, *index))?;
+        }
+    }
+    ranks.sort_unstable();
+    ranks.iter().map(|rank| rank.2).collect(alloc)
 }

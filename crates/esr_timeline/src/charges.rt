@@ -53,8 +53,9 @@ fn arrow_of<'a>(
         new,
         explained: causes.explained(charge.update, item),
         relation: entry.map_or(Relation::SameItem, |entry| {
-            causes.relation(charge.update, item, entry.event)
+            causes.relation(charge.update, entry.event)
         }),
+        group: causes.group(charge.update, item),
     }
 }
 

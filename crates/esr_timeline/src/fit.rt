@@ -1,15 +1,22 @@
 //! Fits a timeline into the maximum width, or into a few bands of it. It is built with all events, and as long as it
 //! does not fit, with fewer: first without the labels of events on which no charge depends, then without these events,
-//! then with the first charges of a ranking only (`causes`). One band is tried first, unless labels would be omitted.
+//! then with the first charges of a ranking only (`causes`) and as many of the reads that are off. One band is tried first,
+//! unless labels would be omitted.
 
 use crate::causes::Causes;
 use crate::charges::{
     ChargedQueries, between, charges_to, drawable, greatest, sum_of, with_exports,
 };
-use crate::lanes::{MAX_LANES, concerned, farthest, first_begun, lanes_of};
-use crate::marks::{keys_of, mark_keys, mark_query_reads, marks_of, marks_on};
+use crate::farthest::farthest_read;
+use crate::lanes::{
+    MAX_LANES, MAX_LATE_READS, concerned, farthest, first_begun, lanes_of, nearest_to,
+};
+use crate::marks::{count_off_reads, keys_of, mark_keys, mark_query_reads, marks_of, marks_on};
 use crate::source::Source;
-use esr_chart::{Arrow, Drawn, Format, Lane, Layout, Mark, Order, Rest, Scene, Spacing, layout_of};
+use esr_chart::{
+    Arrow, Drawn, Farthest, Format, Heads, Lane, Layout, Mark, Nearest, Order, Rest, Scene,
+    Spacing, layout_of,
+};
 use esr_history::TxnId;
 use esr_report::name_of_transaction;
 use esr_text::first;
@@ -20,19 +27,28 @@ use std::alloc::{AllocError, Global};
 const WIDE_FORMAT: Format = Format {
     width: 1064,
     bands: 3,
+    height: 1400,
+    heads: Heads::InFront,
 };
 
 /// The narrow layout of a timeline of one query, for phones.
 const NARROW_FORMAT: Format = Format {
     width: 360,
     bands: 12,
+    height: 2500,
+    heads: Heads::Above,
 };
 
 /// The narrow layout of a whole script, which shows all that the wide one shows.
 const WHOLE_NARROW_FORMAT: Format = Format {
     width: 360,
     bands: FEW_ENTRIES,
+    height: u32::MAX,
+    heads: Heads::Above,
 };
+
+/// No layout has space for more events.
+const MAX_COLUMNS: usize = 300;
 
 /// A script with at most this many transactions and entries is drawn as a whole, if it fits.
 const FEW_ENTRIES: usize = 120;
@@ -44,7 +60,7 @@ enum Detail {
     All,
     /// The events that charges depend on, and blocked ones.
     Keys,
-    /// The events that the first charges of the ranking depend on, at most this many.
+    /// The events that the first charges of the ranking depend on, at most this many, and as many of the reads that are off.
     Greatest(usize),
     /// The first events, at most this many.
     First(usize),
@@ -60,26 +76,37 @@ struct Stage {
 const WIDE: Spacing = Spacing {
     has_all_labels: true,
     pitch: 40,
+    is_folded: false,
 };
 
 const CLOSE: Spacing = Spacing {
     has_all_labels: true,
     pitch: 22,
+    is_folded: false,
 };
 
 const SNUG: Spacing = Spacing {
     has_all_labels: true,
     pitch: 14,
+    is_folded: false,
+};
+
+const FOLDED: Spacing = Spacing {
+    has_all_labels: true,
+    pitch: 14,
+    is_folded: true,
 };
 
 const LOOSE: Spacing = Spacing {
     has_all_labels: false,
     pitch: 22,
+    is_folded: true,
 };
 
 const TIGHT: Spacing = Spacing {
     has_all_labels: false,
     pitch: 14,
+    is_folded: true,
 };
 
 /// All events, with the largest distances between them that a layout has, then with less.
@@ -98,22 +125,28 @@ const ALL_SNUG: Stage = Stage {
     spacing: SNUG,
 };
 
+const ALL_FOLDED: Stage = Stage {
+    detail: Detail::All,
+    spacing: FOLDED,
+};
+
 const ALL_TIGHT: Stage = Stage {
     detail: Detail::All,
     spacing: TIGHT,
 };
 
 /// The stages that omit nothing.
-static ALL: [Stage; 3] = [ALL_WIDE, ALL_CLOSE, ALL_SNUG];
+static ALL: [Stage; 4] = [ALL_WIDE, ALL_CLOSE, ALL_SNUG, ALL_FOLDED];
 
 /// The stages of a whole script.
-static WHOLE: [Stage; 4] = [ALL_WIDE, ALL_CLOSE, ALL_SNUG, ALL_TIGHT];
+static WHOLE: [Stage; 5] = [ALL_WIDE, ALL_CLOSE, ALL_SNUG, ALL_FOLDED, ALL_TIGHT];
 
 /// The stages of one query.
-static ONE: [Stage; 22] = [
+static ONE: [Stage; 23] = [
     ALL_WIDE,
     ALL_CLOSE,
     ALL_SNUG,
+    ALL_FOLDED,
     ALL_TIGHT,
     Stage {
         detail: Detail::Keys,
@@ -254,6 +287,12 @@ struct Material<'a> {
     lanes: Vec<Lane<'a>>,
     marks: Vec<Mark<'a>>,
     charges: Vec<Arrow<'a>>,
+    /// The writers of the farthest reads that were too late.
+    late_writers: Vec<TxnId>,
+    /// The nearest placement of the query, or of the farthest one, if that is off.
+    nearest: Option<Nearest<'a>>,
+    /// The farthest read of that query, if that is off.
+    farthest: Option<Farthest<'a>>,
 }
 
 /// What is drawn at a stage.
@@ -264,6 +303,8 @@ struct Choice<'a> {
     arrows: Vec<Arrow<'a>>,
     /// The number of events on these lanes that are not drawn.
     hidden: usize,
+    /// The number of reads that are off among these events.
+    hidden_off: usize,
 }
 
 impl<'a> Choice<'a> {
@@ -277,16 +318,16 @@ impl<'a> Choice<'a> {
     }
 }
 
-/// Returns the lanes of the query and of the updates of these charges.
+/// Returns the lanes of these transactions and of the updates of these charges.
 fn lanes_in<'a>(
     alloc: Global,
     lanes: &[Lane<'a>],
     arrows: &[Arrow<'a>],
-    query: Option<TxnId>,
+    txns: &[TxnId],
 ) -> Result<Vec<Lane<'a>>, AllocError> {
     let mut kept = Vec::new(alloc);
     for lane in lanes {
-        if query == Some(lane.txn) || arrows.iter().any(|arrow| arrow.update == lane.txn) {
+        if txns.contains(&lane.txn) || arrows.iter().any(|arrow| arrow.update == lane.txn) {
             kept.push(*lane)?;
         }
     }
@@ -308,12 +349,41 @@ fn lanes_of_marks<'a>(
     Ok(kept)
 }
 
+/// Returns the maximum number of reads that are off that are drawn.
+fn max_off_reads(detail: Detail) -> usize {
+    match detail {
+        Detail::Greatest(upper_bound) => upper_bound.max(1),
+        Detail::All | Detail::Keys | Detail::First(_) => usize::MAX,
+    }
+}
+
 /// Returns whether blocked events are drawn.
 fn has_blocked(detail: Detail) -> bool {
     !matches!(detail, Detail::Greatest(upper_bound) if upper_bound < 16)
 }
 
 impl<'a> Material<'a> {
+    /// Returns the query and the writers of this number of its farthest reads that were too late.
+    fn query_and_writers(&self, alloc: Global, reads: usize) -> Result<Vec<TxnId>, AllocError> {
+        let mut txns = first(&self.late_writers, reads).to_vec(alloc)?;
+        if let Some(query) = self.query {
+            txns.push(query)?;
+        }
+        Ok(txns)
+    }
+
+    /// Returns whether there may be space for the events of a stage.
+    fn may_fit(&self, alloc: Global, detail: Detail) -> Result<bool, AllocError> {
+        match detail {
+            Detail::All => Ok(self.marks.len() <= MAX_COLUMNS),
+            Detail::Keys => {
+                let charges = drawable(alloc, &self.charges)?.len();
+                Ok(charges.max(count_off_reads(&self.marks)) <= MAX_COLUMNS)
+            }
+            Detail::Greatest(_) | Detail::First(_) => Ok(true),
+        }
+    }
+
     /// Returns the lanes that are drawn, of which these charges are drawn.
     fn lanes(
         &self,
@@ -322,7 +392,10 @@ impl<'a> Material<'a> {
         arrows: &[Arrow<'a>],
     ) -> Result<Vec<Lane<'a>>, AllocError> {
         match detail {
-            Detail::Greatest(_) => lanes_in(alloc, &self.lanes, arrows, self.query),
+            Detail::Greatest(_) => {
+                let txns = self.query_and_writers(alloc, max_off_reads(detail))?;
+                lanes_in(alloc, &self.lanes, arrows, &txns)
+            }
             Detail::First(count) => lanes_of_marks(alloc, &self.lanes, first(&self.marks, count)),
             Detail::All | Detail::Keys => self.lanes.to_vec(alloc),
         }
@@ -344,6 +417,7 @@ impl<'a> Material<'a> {
         Rest {
             transactions: begun.saturating_sub(choice.lanes.len()) as u64,
             events: choice.hidden as u64,
+            off_reads: choice.hidden_off as u64,
             charges: charges as u64,
             amount: sum_of(&self.charges).saturating_sub(sum_of(&choice.arrows)),
         }
@@ -358,7 +432,8 @@ impl<'a> Material<'a> {
         arrows: &[Arrow<'a>],
     ) -> Result<Vec<Mark<'a>>, AllocError> {
         let mut all = marks_on(alloc, &self.marks, &self.lanes, lanes)?;
-        mark_keys(&mut all, arrows, has_blocked(detail));
+        let reads = max_off_reads(detail);
+        mark_keys(alloc, &mut all, arrows, reads, has_blocked(detail))?;
         if detail == Detail::All {
             mark_query_reads(&mut all, lanes);
         }
@@ -375,6 +450,7 @@ impl<'a> Material<'a> {
         let all = self.marks(alloc, detail, &choice.lanes, &choice.arrows)?;
         choice.marks = drawn_marks(alloc, &all, detail)?;
         choice.hidden = all.len().saturating_sub(choice.marks.len());
+        choice.hidden_off = count_off_reads(&all).saturating_sub(count_off_reads(&choice.marks));
         choice.arrows = shown(alloc, &choice.arrows, &choice.marks)?;
         Ok(())
     }
@@ -399,6 +475,7 @@ impl<'a> Material<'a> {
             marks: Vec::new(alloc),
             arrows: Vec::new(alloc),
             hidden: 0,
+            hidden_off: 0,
         };
         self.choose(alloc, detail, &mut choice)?;
         Ok(choice)
@@ -432,6 +509,8 @@ impl<'a> Material<'a> {
             all_charges,
             order: self.order(),
             rest,
+            nearest: self.nearest,
+            farthest: self.farthest,
         }
     }
 
@@ -467,9 +546,11 @@ impl<'a> Material<'a> {
         format: Format,
     ) -> Result<Option<Picture<'a>>, AllocError> {
         for stage in stages {
-            let picture = self.picture(alloc, *stage, format)?;
-            if picture.layout.is_complete {
-                return Ok(Some(picture));
+            if self.may_fit(alloc, stage.detail)? {
+                let picture = self.picture(alloc, *stage, format)?;
+                if picture.layout.is_complete {
+                    return Ok(Some(picture));
+                }
             }
         }
         Ok(None)
@@ -483,8 +564,8 @@ impl<'a> Material<'a> {
         stages: &[Stage],
         format: Format,
     ) -> Result<Picture<'a>, AllocError> {
-        let width = format.width;
-        if let Some(picture) = self.first_fitting(alloc, all(), Format { width, bands: 1 })? {
+        let one_band = Format { bands: 1, ..format };
+        if let Some(picture) = self.first_fitting(alloc, all(), one_band)? {
             return Ok(picture);
         }
         if let Some(picture) = self.first_fitting(alloc, stages, format)? {
@@ -558,19 +639,10 @@ fn material_on<'a>(
         lanes,
         marks,
         charges,
+        late_writers: Vec::new(alloc),
+        nearest: None,
+        farthest: None,
     })
-}
-
-/// Returns the charges to a query, whose lane is the only one.
-fn charges_of<'a>(
-    alloc: Global,
-    source: Source<'a>,
-    query: TxnId,
-    trace: &QueryTrace,
-    own: &[Lane<'a>],
-) -> Result<Vec<Arrow<'a>>, AllocError> {
-    let causes = Causes::of(alloc, source, query, trace)?;
-    charges_to(alloc, source, &causes, own, ChargedQueries::One(query))
 }
 
 /// Returns the lanes of a query with these charges and of the transactions that concern it.
@@ -579,24 +651,33 @@ fn lanes_about<'a>(
     source: Source<'a>,
     query: TxnId,
     trace: &QueryTrace,
+    late_writers: &[TxnId],
     charges: &[Arrow<'a>],
 ) -> Result<Vec<Lane<'a>>, AllocError> {
-    let chosen = concerned(alloc, source, query, trace, charges)?;
+    let chosen = concerned(alloc, source, query, trace, late_writers, charges)?;
     lanes_of(alloc, source, &chosen)
 }
 
-/// Returns the material of a query, which has this lane.
+/// Returns the material of a query, which has this lane and these causes.
 fn material_about<'a>(
     alloc: Global,
     source: Source<'a>,
     query: TxnId,
     trace: &QueryTrace,
     own: &[Lane<'a>],
+    causes: &Causes,
 ) -> Result<Material<'a>, AllocError> {
-    let all = charges_of(alloc, source, query, trace, own)?;
-    let lanes = lanes_about(alloc, source, query, trace, &all)?;
+    let all = charges_to(alloc, source, causes, own, ChargedQueries::One(query))?;
+    let writers = causes.late_writers(alloc, source, trace, MAX_LATE_READS)?;
+    let lanes = lanes_about(alloc, source, query, trace, &writers, &all)?;
     let charges = between(alloc, &all, own, &lanes)?;
-    material_on(alloc, source, Some(query), lanes, charges)
+    let farthest = farthest_read(alloc, source, query, causes, trace, &all)?;
+    let nearest = nearest_to(alloc, source, query)?;
+    let mut material = material_on(alloc, source, Some(query), lanes, charges)?;
+    material.late_writers = writers;
+    material.farthest = farthest;
+    material.nearest = nearest;
+    Ok(material)
 }
 
 /// Returns the timeline of a query and the transactions that concern it.
@@ -607,7 +688,8 @@ pub fn timeline_of_query<'a>(
     trace: &QueryTrace,
 ) -> Result<Pictures<'a>, AllocError> {
     let own = lanes_of(alloc, source, &[query])?;
-    let material = material_about(alloc, source, query, trace, &own)?;
+    let causes = Causes::of(alloc, source, query, trace)?;
+    let material = material_about(alloc, source, query, trace, &own, &causes)?;
     material.pictures(alloc, one(), NARROW_FORMAT)
 }
 
@@ -625,15 +707,31 @@ fn material_of_first<'a>(alloc: Global, source: Source<'a>) -> Result<Material<'
     material_on(alloc, source, None, lanes, charges)
 }
 
-/// Returns the timeline of the transactions that began first.
-fn timeline_of_first<'a>(
+/// Returns the farthest read of a query, if it is off.
+fn farthest_read_of<'a>(
     alloc: Global,
     source: Source<'a>,
-    stages: &[Stage],
-    narrow: Format,
-) -> Result<Pictures<'a>, AllocError> {
-    let material = material_of_first(alloc, source)?;
-    material.pictures(alloc, stages, narrow)
+    query: TxnId,
+) -> Result<Option<Farthest<'a>>, AllocError> {
+    let trace = trace_of(alloc, source.history, query)?;
+    let own = lanes_of(alloc, source, &[query])?;
+    let causes = Causes::of(alloc, source, query, &trace)?;
+    let charges = charges_to(alloc, source, &causes, &own, ChargedQueries::One(query))?;
+    farthest_read(alloc, source, query, &causes, &trace, &charges)
+}
+
+/// Returns the material of a whole script with the nearest placement and the farthest read of the query with the greatest
+/// distance.
+fn material_of_whole<'a>(alloc: Global, source: Source<'a>) -> Result<Material<'a>, AllocError> {
+    let Some(query) = farthest(alloc, source.auditor)? else {
+        return material_of_first(alloc, source);
+    };
+    let nearest = nearest_to(alloc, source, query)?;
+    let farthest = farthest_read_of(alloc, source, query)?;
+    let mut material = material_of_first(alloc, source)?;
+    material.nearest = nearest;
+    material.farthest = farthest;
+    Ok(material)
 }
 
 /// Returns whether a script is so short that it may be drawn as a whole.
@@ -649,7 +747,8 @@ fn timeline_of_whole<'a>(
     if !is_short(source) {
         return Ok(None);
     }
-    let pictures = timeline_of_first(alloc, source, whole(), WHOLE_NARROW_FORMAT)?;
+    let material = material_of_whole(alloc, source)?;
+    let pictures = material.pictures(alloc, whole(), WHOLE_NARROW_FORMAT)?;
     if pictures.fit() {
         Ok(Some(pictures))
     } else {
@@ -665,7 +764,7 @@ fn timeline_of_farthest<'a>(alloc: Global, source: Source<'a>) -> Result<Picture
             let trace = trace_of(alloc, source.history, query)?;
             timeline_of_query(alloc, source, query, &trace)
         }
-        None => timeline_of_first(alloc, source, beginning(), NARROW_FORMAT),
+        None => material_of_first(alloc, source)?.pictures(alloc, beginning(), NARROW_FORMAT),
     }
 }
 

@@ -2,7 +2,7 @@
 
 use crate::causes::ranking;
 use crate::source::Source;
-use esr_chart::{Arrow, Lane};
+use esr_chart::{Arrow, Lane, Nearest};
 use esr_history::{Entry, Event, Refusal, Reply, TxnId};
 use esr_outcomes::{Auditor, TxnKind, kind_at, kinds_of, outcome_of};
 use esr_report::name_of_transaction;
@@ -12,6 +12,9 @@ use std::alloc::{AllocError, Global};
 
 /// The maximum number of lanes.
 pub const MAX_LANES: usize = 12;
+
+/// The maximum number of reads that were too late whose writers have lanes in any case.
+pub const MAX_LATE_READS: usize = 3;
 
 /// With at most this many lanes, the writers of the values that were read have lanes too.
 const FEW_LANES: usize = 6;
@@ -116,18 +119,22 @@ fn push_causes(
     Ok(())
 }
 
-/// Returns the query and the transactions that concern it, in the order of their begins: the updates whose charges
-/// explain the reads that are off, the other updates that it was charged by, the transactions that blocked it or that it
-/// blocked, and the writers of the values that it read.
+/// Returns the query and the transactions that concern it, in the order of their begins: the writers of the farthest reads
+/// that were too late, the updates whose charges explain the reads that are off, the other updates that it was charged by,
+/// the transactions that blocked it or that it blocked, and the writers of the values that it read.
 pub fn concerned(
     alloc: Global,
     source: Source<'_>,
     query: TxnId,
     trace: &QueryTrace,
+    late_writers: &[TxnId],
     arrows: &[Arrow<'_>],
 ) -> Result<Vec<TxnId>, AllocError> {
     let mut chosen = Vec::new(alloc);
     chosen.push(query)?;
+    for writer in late_writers {
+        push_new(&mut chosen, *writer, MAX_LANES)?;
+    }
     push_causes(alloc, &mut chosen, arrows)?;
     push_charged(alloc, &mut chosen, trace)?;
     push_opponents(&mut chosen, source, query)?;
@@ -156,7 +163,8 @@ pub fn first_begun(
     Ok(chosen)
 }
 
-/// Returns the place of a query among those that were farthest off: a greater distance first, then a greater import.
+/// Returns whether the first of two queries, each with its distance and its import, is farther off: it has the greater distance,
+/// or the same and the greater import.
 fn is_farther(a: (u64, u64), b: (u64, u64)) -> bool {
     a.0 > b.0 || (a.0 == b.0 && a.1 > b.1)
 }
@@ -185,6 +193,39 @@ fn nearest_of(alloc: Global, source: Source<'_>, lane: &Lane<'_>) -> Result<Vec<
     match source.auditor.summary(alloc, lane.txn)? {
         Some(audit) => source.auditor.values_after(alloc, &audit.before),
         None => Ok(Vec::new(alloc)),
+    }
+}
+
+/// Returns the one of some updates that committed last, with the index of the entry.
+fn last_of(source: Source<'_>, updates: &[TxnId]) -> Option<(TxnId, usize)> {
+    let mut last: Option<(TxnId, usize)> = None;
+    for update in updates {
+        let facts = source.history.facts(*update);
+        let end = facts.and_then(|facts| facts.end).unwrap_or(0) as usize;
+        if last.is_none_or(|(_, place)| place < end) {
+            last = Some((*update, end));
+        }
+    }
+    last
+}
+
+/// Returns the nearest placement of a query, if it has committed and is off.
+pub fn nearest_to<'a>(
+    alloc: Global,
+    source: Source<'a>,
+    query: TxnId,
+) -> Result<Option<Nearest<'a>>, AllocError> {
+    match source.auditor.summary(alloc, query)? {
+        Some(audit) if audit.distance > 0 => {
+            let last = last_of(source, &audit.before);
+            Ok(Some(Nearest {
+                query: name_of_transaction(source.transactions, query),
+                updates: audit.before.len() as u64,
+                last: last.map_or("", |(txn, _)| name_of_transaction(source.transactions, txn)),
+                step: last.map_or(0, |(_, place)| (place as u64).saturating_add(1)),
+            }))
+        }
+        _ => Ok(None),
     }
 }
 

@@ -13,9 +13,11 @@
 mod causes;
 mod charges;
 mod drawing;
+mod farthest;
 mod fit;
 mod lanes;
 mod marks;
+mod predecessors;
 mod sentences;
 mod source;
 mod view;

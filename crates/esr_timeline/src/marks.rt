@@ -4,7 +4,7 @@ use crate::lanes::{all_nearest, blocker_of, lane_at, txn_of};
 use crate::source::Source;
 use esr_chart::{Action, Arrow, Cause, Lane, Mark};
 use esr_history::{Entry, Event, Refusal, Reply, TxnId};
-use esr_items::ItemId;
+use esr_items::{ItemId, Metric};
 use esr_report::name_of_transaction;
 use std::alloc::{AllocError, Global};
 
@@ -69,6 +69,14 @@ fn item_name<'a>(source: Source<'a>, event: Event) -> &'a str {
     }
 }
 
+/// Returns the weight of the item of an entry, or 1.
+fn item_weight(source: Source<'_>, event: Event) -> u64 {
+    match item_of(event) {
+        Some(item) => source.history.metric().distance(item, 0, 1),
+        None => 1,
+    }
+}
+
 /// Returns the name of the transaction that blocked an entry, or nothing.
 fn blocker_name<'a>(source: Source<'a>, reply: Reply) -> &'a str {
     match blocker_of(reply) {
@@ -107,6 +115,7 @@ fn mark_of<'a>(
         line: line_at(source, place),
         action,
         item: item_name(source, entry.event),
+        weight: item_weight(source, entry.event),
         blocker: blocker_name(source, entry.reply),
         is_key: false,
     })
@@ -266,16 +275,11 @@ fn is_blocked(action: Action) -> bool {
     matches!(action, Action::Blocked { .. })
 }
 
-/// Returns whether an event is a read that is off.
-pub fn is_off(action: Action) -> bool {
-    matches!(action, Action::Read { nearest, .. } if nearest.is_some())
-}
-
-/// Marks reads that are off as such that matter, and blocked events, if they are to be drawn.
+/// Marks the blocked events, if they are to be drawn.
 fn mark_blocked(marks: &mut [Mark<'_>], has_blocked: bool) {
     for index in 0..marks.len() {
         if let Some(mark) = marks.get_mut(index) {
-            mark.is_key = has_blocked && (is_blocked(mark.action) || is_off(mark.action));
+            mark.is_key = has_blocked && is_blocked(mark.action);
         }
     }
 }
@@ -312,19 +316,62 @@ fn mark_at(marks: &mut [Mark<'_>], index: usize) {
     }
 }
 
-/// Marks a read and the write of its value.
-fn mark_pair(marks: &mut [Mark<'_>], read: usize, write: usize) {
-    mark_at(marks, read);
-    mark_at(marks, write);
+/// Returns the distance of a read from the value in the nearest placement, and 0 of any other event.
+fn distance_of(mark: &Mark<'_>) -> u64 {
+    match mark.action {
+        Action::Read {
+            value,
+            nearest: Some(there),
+        } => value.abs_diff(there).saturating_mul(mark.weight),
+        _ => 0,
+    }
 }
 
-/// Marks the reads that are off and whose value was written on a lane that is drawn, with these writes.
-fn mark_off_reads(marks: &mut [Mark<'_>]) {
-    for index in 0..marks.len() {
-        if let Some(write) = marks.get(index).and_then(|read| write_of(marks, read)) {
-            mark_pair(marks, index, write);
+/// Returns the indices of the reads that are off, those with the greatest distances first, at most `upper_bound`.
+fn farthest_reads(
+    alloc: Global,
+    marks: &[Mark<'_>],
+    upper_bound: usize,
+) -> Result<Vec<usize>, AllocError> {
+    let mut ranks = Vec::new(alloc);
+    for (index, mark) in marks.iter().enumerate() {
+        let distance = distance_of(mark);
+        if distance > 0 {
+            ranks.push((u64::MAX.saturating_sub(distance), index))?;
         }
     }
+    ranks.sort_unstable();
+    ranks.truncate(upper_bound);
+    ranks.iter().map(|rank| rank.1).collect(alloc)
+}
+
+/// Marks the reads that are off, those with the greatest distances first, at most `upper_bound`, and the writes of their
+/// values on lanes that are drawn. A value can be that of an update that committed before the query began, so that no charge
+/// explains it.
+fn mark_off_reads(
+    alloc: Global,
+    marks: &mut [Mark<'_>],
+    upper_bound: usize,
+) -> Result<(), AllocError> {
+    for index in &farthest_reads(alloc, marks, upper_bound)? {
+        let write = marks.get(*index).and_then(|read| write_of(marks, read));
+        mark_at(marks, *index);
+        if let Some(write) = write {
+            mark_at(marks, write);
+        }
+    }
+    Ok(())
+}
+
+/// Returns the number of reads that are off.
+pub fn count_off_reads(marks: &[Mark<'_>]) -> usize {
+    let mut count = 0usize;
+    for mark in marks {
+        if distance_of(mark) > 0 {
+            count = count.saturating_add(1);
+        }
+    }
+    count
 }
 
 /// Returns whether a mark is a read of a query.
@@ -345,48 +392,21 @@ pub fn mark_query_reads(marks: &mut [Mark<'_>], lanes: &[Lane<'_>]) {
     }
 }
 
-/// Returns the difference of a read from the value in the nearest placement, and 0 of any other event.
-fn difference_of(action: Action) -> u64 {
-    match action {
-        Action::Read {
-            value,
-            nearest: Some(there),
-        } => value.abs_diff(there),
-        _ => 0,
-    }
-}
-
-/// Returns the index of the first read with the greatest difference from the nearest placement, if a read is off.
-fn farthest_read(marks: &[Mark<'_>]) -> Option<usize> {
-    let mut farthest = None;
-    let mut greatest = 0u64;
-    for (index, mark) in marks.iter().enumerate() {
-        let difference = difference_of(mark.action);
-        if difference > greatest {
-            greatest = difference;
-            farthest = Some(index);
-        }
-    }
-    farthest
-}
-
-/// Marks the read with the greatest difference from the nearest placement. Its value can be that of an update that
-/// committed before the query began, so that no charge explains it.
-fn mark_farthest_read(marks: &mut [Mark<'_>]) {
-    if let Some(index) = farthest_read(marks) {
-        mark_at(marks, index);
-    }
-}
-
-/// Marks the events that these charges depend on, the read with the greatest difference, the reads that are off and whose
-/// writers are drawn, and the blocked events if they are to be drawn.
-pub fn mark_keys(marks: &mut [Mark<'_>], arrows: &[Arrow<'_>], has_blocked: bool) {
+/// Marks the events that these charges depend on, at most `upper_bound` reads that are off, and the blocked events if they
+/// are to be drawn.
+pub fn mark_keys(
+    alloc: Global,
+    marks: &mut [Mark<'_>],
+    arrows: &[Arrow<'_>],
+    upper_bound: usize,
+    has_blocked: bool,
+) -> Result<(), AllocError> {
     mark_blocked(marks, has_blocked);
-    mark_farthest_read(marks);
-    mark_off_reads(marks);
+    mark_off_reads(alloc, marks, upper_bound)?;
     for arrow in arrows {
         mark_charge(marks, arrow);
     }
+    Ok(())
 }
 
 /// Returns whether a mark bounds its lane.

@@ -1,7 +1,10 @@
-//! The lines above the lanes: the heading, the lines with errors, what is not drawn, and the weights.
+//! The lines above the lanes: the heading, the lines with errors, the nearest placement, the farthest read, what is not drawn,
+//! and the weights.
 
 use crate::fit::Picture;
-use esr_chart::{Arrow, Band, MARGIN, Order, Rest, Scene, push_heading_words};
+use esr_chart::{
+    Arrow, Band, Farthest, MARGIN, Nearest, Order, Reason, Rest, Scene, push_heading_words,
+};
 use esr_text::{first, push_count, push_number, wrap};
 use std::alloc::{AllocError, Global};
 
@@ -12,6 +15,112 @@ const HEADING_LETTER: u32 = 10;
 
 /// The maximum number of items whose weights are listed.
 const MAX_WEIGHTS: usize = 6;
+
+/// Appends how many of the events that are not drawn are reads that are off, or nothing.
+fn push_off_reads(out: &mut String, reads: u64) -> Result<(), AllocError> {
+    if reads == 0 {
+        return Ok(());
+    }
+    out.push_str(", ")?;
+    push_count(
+        out,
+        reads,
+        " of them a read that is off",
+        " of them reads that are off",
+    )
+}
+
+/// Appends the sentence on the reads that are off, or nothing if there are none.
+fn push_nearest(out: &mut String, nearest: Option<Nearest<'_>>) -> Result<(), AllocError> {
+    let Some(nearest) = nearest else {
+        return Ok(());
+    };
+    let query = nearest.query;
+    write!(
+        out,
+        "Reads of {query} in red differ from its nearest state: "
+    )?;
+    if nearest.updates == 0 {
+        return out.push_str("before all updates.");
+    }
+    let name = nearest.last;
+    if nearest.updates == 1 {
+        write!(out, "after {name}, which committed in step ")?;
+    } else {
+        out.push_str("after ")?;
+        push_number(out, nearest.updates)?;
+        write!(
+            out,
+            " updates, the last of which, {name}, committed in step "
+        )?;
+    }
+    push_number(out, nearest.step)?;
+    out.push('.')
+}
+
+/// Appends what a charged update did, as a clause after its name.
+fn push_deed(out: &mut String, reason: Reason<'_>, query: &str) -> Result<(), AllocError> {
+    let item = reason.item;
+    if reason.is_read {
+        write!(
+            out,
+            ", of which {query} read an uncommitted {item} in step "
+        )?;
+        return push_number(out, reason.step);
+    }
+    write!(out, ", which changed {item} in step ")?;
+    push_number(out, reason.step)?;
+    write!(out, " after {query} had read it")
+}
+
+/// Appends why the writer of the value of a read in this step is not before the nearest placement.
+fn push_late(
+    out: &mut String,
+    farthest: Farthest<'_>,
+    reason: Reason<'_>,
+) -> Result<(), AllocError> {
+    let Farthest { query, writer, .. } = farthest;
+    let update = reason.update;
+    if reason.step == farthest.step {
+        return out.push_str(", which had not committed");
+    }
+    if update != writer {
+        write!(out, ". {writer} follows {update}")?;
+    }
+    push_deed(out, reason, query)
+}
+
+/// Appends the reason why a read is off: if it was too early, which update changed the item after it.
+fn push_reason(
+    out: &mut String,
+    farthest: Farthest<'_>,
+    reason: Reason<'_>,
+) -> Result<(), AllocError> {
+    if !farthest.writer.is_empty() {
+        return push_late(out, farthest, reason);
+    }
+    let update = reason.update;
+    write!(out, ", before {update} changed it in step ")?;
+    push_number(out, reason.step)
+}
+
+/// Appends the sentence on the farthest read, or nothing if no read is off.
+fn push_farthest(out: &mut String, farthest: Option<Farthest<'_>>) -> Result<(), AllocError> {
+    let Some(farthest) = farthest else {
+        return Ok(());
+    };
+    let Farthest { query, item, .. } = farthest;
+    write!(out, "Farthest read of {query}: {item} in step ")?;
+    push_number(out, farthest.step)?;
+    let writer = farthest.writer;
+    if !writer.is_empty() {
+        write!(out, ", written by {writer}")?;
+    }
+    if let Some(reason) = farthest.reason {
+        push_reason(out, farthest, reason)?;
+    }
+    out.push('.')
+}
 
 /// Appends a sentence with the numbers of elements that are not drawn, or nothing.
 fn push_rest(out: &mut String, rest: Rest) -> Result<(), AllocError> {
@@ -29,6 +138,7 @@ fn push_rest(out: &mut String, rest: Rest) -> Result<(), AllocError> {
         out.push_str(joint)?;
         push_count(out, rest.events, " event", " events")?;
         out.push_str(" of those below")?;
+        push_off_reads(out, rest.off_reads)?;
         joint = "; ";
     }
     if rest.charges > 0 {
@@ -45,7 +155,7 @@ fn push_rest(out: &mut String, rest: Rest) -> Result<(), AllocError> {
 fn order_sentence(order: Order) -> &'static str {
     match order {
         Order::Explaining => {
-            " Drawn first: the charges that explain the reads that are off, beginning with the farthest read; then the largest others."
+            " Drawn first: the charges that explain the reads in red, the farthest first."
         }
         Order::Largest => " Drawn: the largest charges.",
         Order::ByTransaction => "",
@@ -159,7 +269,7 @@ pub struct Line {
     pub text: String,
 }
 
-/// Adds the sentences below the heading: what is not drawn, and the weights.
+/// Adds the sentences below the heading: the nearest placement, the farthest read, what is not drawn, and the weights.
 fn push_sentences(
     alloc: Global,
     lines: &mut Vec<Line>,
@@ -168,6 +278,12 @@ fn push_sentences(
     letters: usize,
 ) -> Result<(), AllocError> {
     let mut words = String::new(alloc);
+    push_nearest(&mut words, scene.nearest)?;
+    push_lines(alloc, lines, LineClass::Sentence, &words, letters)?;
+    words.clear();
+    push_farthest(&mut words, scene.farthest)?;
+    push_lines(alloc, lines, LineClass::Sentence, &words, letters)?;
+    words.clear();
     push_omissions(&mut words, scene, bands)?;
     push_lines(alloc, lines, LineClass::Sentence, &words, letters)?;
     words.clear();

@@ -1,0 +1,91 @@
+//! The farthest read of a query, with the charge that explains it best.
+
+use crate::causes::{Causes, ranking};
+use crate::source::Source;
+use esr_chart::{Arrow, Farthest, Reason};
+use esr_history::{Event, TxnId};
+use esr_report::name_of_transaction;
+use esr_trace::{ObservedRead, QueryTrace};
+use std::alloc::{AllocError, Global};
+
+/// Returns the charge that explains a read best: of its group the first in the ranking, and after the read if that came too
+/// early.
+fn best_charge<'a>(
+    alloc: Global,
+    causes: &Causes,
+    observed: &ObservedRead,
+    arrows: &[Arrow<'a>],
+) -> Result<Option<Arrow<'a>>, AllocError> {
+    let group = causes.group_of(observed);
+    let is_late = causes.late_cause(observed).is_some();
+    for index in &ranking(alloc, arrows)? {
+        if let Some(arrow) = arrows.get(*index)
+            && arrow.explained > 0
+            && arrow.group == group
+            && (is_late || arrow.place > observed.place)
+        {
+            return Ok(Some(*arrow));
+        }
+    }
+    Ok(None)
+}
+
+/// Returns whether a charge is for a read of the query.
+fn is_of_read(source: Source<'_>, arrow: &Arrow<'_>) -> bool {
+    match source.history.log().get(arrow.place) {
+        Some(entry) => matches!(entry.event, Event::Read { .. }),
+        None => false,
+    }
+}
+
+/// Returns the reason that a charge is for a read.
+fn reason_of<'a>(source: Source<'a>, arrow: &Arrow<'a>) -> Reason<'a> {
+    Reason {
+        update: name_of_transaction(source.transactions, arrow.update),
+        item: arrow.item,
+        step: (arrow.place as u64).saturating_add(1),
+        is_read: is_of_read(source, arrow),
+    }
+}
+
+/// Returns a read of a query with the charge that explains it best.
+fn explained<'a>(
+    source: Source<'a>,
+    query: TxnId,
+    causes: &Causes,
+    observed: &ObservedRead,
+    arrow: Option<Arrow<'a>>,
+) -> Farthest<'a> {
+    let writer = match (causes.late_cause(observed), observed.writer) {
+        (Some(_), Some(writer)) => name_of_transaction(source.transactions, writer),
+        _ => "",
+    };
+    Farthest {
+        query: name_of_transaction(source.transactions, query),
+        item: source.items.name_of(observed.item.0).unwrap_or(""),
+        step: (observed.place as u64).saturating_add(1),
+        writer,
+        reason: match arrow {
+            Some(arrow) => Some(reason_of(source, &arrow)),
+            None => None,
+        },
+    }
+}
+
+/// Returns the farthest read of a query with these charges, if a read is off.
+pub fn farthest_read<'a>(
+    alloc: Global,
+    source: Source<'a>,
+    query: TxnId,
+    causes: &Causes,
+    trace: &QueryTrace,
+    arrows: &[Arrow<'a>],
+) -> Result<Option<Farthest<'a>>, AllocError> {
+    match causes.farthest(source, trace) {
+        Some(observed) => {
+            let arrow = best_charge(alloc, causes, &observed, arrows)?;
+            Ok(Some(explained(source, query, causes, &observed, arrow)))
+        }
+        None => Ok(None),
+    }
+}
