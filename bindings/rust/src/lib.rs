@@ -82,6 +82,7 @@ mod store;
 mod sync;
 mod sys;
 mod transact;
+mod turns;
 mod twin;
 mod waits;
 

@@ -27,6 +27,7 @@ use crate::{
     patience::{Rounds, Waiting},
     store::Place,
     sync::Instant,
+    turns,
 };
 use std::{sync::atomic::Ordering, time::Duration};
 
@@ -230,6 +231,7 @@ impl Bank {
         if let Err(stopped) = self.check_running() {
             return Some(Err(stopped.into()));
         }
+        turns::begin_update();
         let mut draft = Draft::take();
         let (mut reruns, mut blocked) = (0, 0);
         let mut last = Duration::MAX;

@@ -6,6 +6,7 @@ use crate::{
     engine::MAX_TRANSACTIONS,
     interleave::{Depth, explore},
     sync::park_timeout,
+    turns,
     twin::{MAX_LOGGED, tests::STACK},
 };
 use std::{
@@ -98,6 +99,16 @@ fn optimistic_updates() {
             },
         );
         println!("{runs} schedules");
+    }
+}
+
+/// Each optimistic update is one of its thread's turn.
+#[test]
+fn optimistic_updates_take_turns() {
+    let bank = bank(0);
+    for count in 1..=3 {
+        bank.transact(100, transfer).expect("it commits");
+        assert_eq!(turns::tests::updates(), count);
     }
 }
 
