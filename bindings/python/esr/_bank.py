@@ -58,6 +58,7 @@ from ._waiting import SHARE, Lock, WaitGraph, Waiting
 __all__ = ["Bank", "Counts", "Finding", "Query", "Update"]
 
 LOG = logging.getLogger("esr")
+WROTE = bytes(c.Reply(c.WROTE))
 MAX_ENTRIES, MAX_TRANSACTIONS = 1_000_000, 65_535
 """The size of a history."""
 NEARLY_FULL = 100_000
@@ -181,6 +182,8 @@ class Bank(Mapping[str, int]):
         """The size of this history when it was opened: the entries of the transactions that were carried into it."""
         self._carried = 0
         """How many of the active transactions were carried into this history."""
+        self._begun = 0
+        """How many transactions had begun in this history when `_make_room` returned: the number of the last one."""
         self._due: List[Query] = []
         self._counters = Counters()
         if not weights.keys() <= opening.keys():
@@ -610,36 +613,46 @@ class Bank(Mapping[str, int]):
             raise BankClosed("the bank is closed")
         raise EsrError(f"status {status}")
 
-    def _answer(self, call: Callable[..., int], *arguments: int) -> c.Reply:
-        reply = c.Reply()
-        self._check(call(self._engine, *arguments, reply))
-        return reply
-
-    def _logged(self, reply: c.Reply, kind: int, txn: int, item: int = 0, value: int = 0) -> c.Reply:
-        """Logs an event for the second engine if it was accepted, and returns the reply."""
-        if self._feed.is_on and reply.kind != c.REFUSED:
-            self._feed.push(c.EVENT.pack(kind, txn, item, 0, value), bytes(reply))
-        return reply
+    # Each of these executes an event, and logs it for the second engine if it is accepted.
 
     def _read(self, txn: int, item: int) -> c.Reply:
-        return self._logged(self._answer(c.library.esr_read, txn, item), c.READ, txn, item)
-
-    def _write(self, txn: int, item: int, value: int) -> c.Reply:
-        return self._logged(self._answer(c.library.esr_write, txn, item, value), c.WRITE, txn, item, value)
+        reply = c.Reply()
+        self._check(c.library.esr_read(self._engine, txn, item, reply))
+        if self._feed.is_on and reply.kind != c.REFUSED:
+            self._feed.push(c.STEP(c.READ, txn, item, 0), reply)
+        return reply
 
     def _read_for_update(self, txn: int, item: int, is_locked: bool) -> c.Reply:
-        reply = self._answer(c.library.esr_read_for_update, txn, item)
-        if not is_locked and reply.kind != c.REFUSED:
-            # the engine has taken the lock by a write of the current value
-            self._logged(c.Reply(c.WROTE), c.WRITE, txn, item, reply.value)
-        return self._logged(reply, c.READ, txn, item)
+        reply = c.Reply()
+        self._check(c.library.esr_read_for_update(self._engine, txn, item, reply))
+        if self._feed.is_on and reply.kind != c.REFUSED:
+            read = c.STEP(c.READ, txn, item, 0)
+            if is_locked:
+                self._feed.push(read, reply)
+            else:
+                # the engine has taken the lock by a write of the current value
+                self._feed.push(c.STEP(c.WRITE, txn, item, reply.value) + read, WROTE + reply)
+        return reply
+
+    def _write(self, txn: int, item: int, value: int) -> c.Reply:
+        reply = c.Reply()
+        self._check(c.library.esr_write(self._engine, txn, item, value, reply))
+        if self._feed.is_on and reply.kind != c.REFUSED:
+            self._feed.push(c.STEP(c.WRITE, txn, item, value), reply)
+        return reply
+
+    def _end(self, call: Callable[..., int], kind: int, txn: int) -> None:
+        reply = c.Reply()
+        self._check(call(self._engine, txn, reply))
+        if self._feed.is_on and reply.kind != c.REFUSED:
+            self._feed.push(c.STEP(kind, txn, 0, 0), reply)
 
     def _abort(self, txn: int) -> None:
-        self._logged(self._answer(c.library.esr_abort, txn), c.ABORT, txn)
+        self._end(c.library.esr_abort, c.ABORT, txn)
 
-    def _packed(self, events: List[int]) -> Tuple[int, ...]:
-        """Returns the replies to events, up to the first that is refused: five numbers for each event, four for each reply. It
-        keeps the interpreter's lock, since creating objects for them takes longer than the call."""
+    def _execute(self, events: List[int]) -> Tuple[int, ...]:
+        """Executes events up to the first that is refused, logs them, and returns the replies: five numbers for each event, four
+        for each reply. It keeps the interpreter's lock, since creating objects for them takes longer than the call."""
         count, answered = len(events) // 5, ctypes.c_size_t()
         replies = ctypes.create_string_buffer(c.REPLY.size * count)
         given = struct.pack("@" + "IIIQq" * count, *events)
@@ -647,26 +660,30 @@ class Bank(Mapping[str, int]):
         found = struct.unpack_from("@" + "IIIq" * answered.value, replies)
         if self._feed.is_on:
             accepted = answered.value - (found[-4] == c.REFUSED)
-            self._feed.push(given[: accepted * c.EVENT.size], replies.raw[: accepted * c.REPLY.size])
+            if accepted == count:
+                self._feed.push(given, replies)
+            else:
+                self._feed.push(given[: accepted * c.EVENT.size], replies.raw[: accepted * c.REPLY.size])
         return found
 
     def _begin_txn(self, kind: int, limit: int) -> int:
         """Begins a transaction in the engine, and returns its number."""
+        reply = c.Reply()
         if kind == c.BEGIN_UPDATE:
-            reply = self._answer(c.library.esr_begin_update, limit)
+            self._check(c.library.esr_begin_update(self._engine, limit, reply))
         else:
-            reply = self._answer(c.library.esr_begin_query, limit, kind == c.BEGIN_STRICT_QUERY)
+            self._check(c.library.esr_begin_query(self._engine, limit, kind == c.BEGIN_STRICT_QUERY, reply))
         if reply.kind == c.REFUSED:
             raise OutOfRange(REASONS[reply.refusal])
         if self._feed.is_on:
-            self._feed.push(c.EVENT.pack(kind, 0, 0, limit, 0), bytes(reply))
+            self._feed.push(c.EVENT.pack(kind, 0, 0, limit, 0), reply)
         return reply.txn
 
     def _begin(self, transaction: Transaction, kind: int) -> None:
         with self._lock:
             self._make_room(transaction)
-            number = self._begin_txn(kind, transaction._limit)
-            transaction.number, transaction._renewals = number, self.renewals
+            number = transaction.number = self._begin_txn(kind, transaction._limit)
+            transaction._renewals = self.renewals
             transaction._state, transaction._begun_at = ACTIVE, time.monotonic()
             self._active[number] = transaction
             self._note_name(transaction)
@@ -716,7 +733,7 @@ class Bank(Mapping[str, int]):
         locks.
         """
         try:
-            self._logged(self._answer(c.library.esr_commit, txn), c.COMMIT, txn)
+            self._end(c.library.esr_commit, c.COMMIT, txn)
             return self._publish(wrote)
         except BaseException:
             self._feed.give_up()
@@ -826,6 +843,7 @@ class Bank(Mapping[str, int]):
 
     def _is_nearly_full(self) -> bool:
         counts = self._counts()
+        self._begun = counts.transactions
         reserve = RESERVE if self._before_renewal else 0
         if counts.transactions_left <= reserve or counts.entries_left <= NEARLY_FULL:
             return True

@@ -37,6 +37,8 @@ class Reply(ctypes.Structure):
 
 EVENT, REPLY = struct.Struct("@IIIQq"), struct.Struct("@IIIq")
 """An event and a reply as bytes."""
+STEP = struct.Struct("@III4x8xq").pack
+"""Returns the bytes of an event without a limit."""
 
 
 class Totals(ctypes.Structure):

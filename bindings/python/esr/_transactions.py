@@ -185,7 +185,7 @@ class Transaction:
             events: List[int] = []
             for item in items[len(values) :]:
                 events += (c.READ, self.number, item, 0, 0)
-            replies = bank._packed(events)
+            replies = bank._execute(events)
             values.extend(value for kind, value in zip(replies[::4], replies[3::4]) if kind != c.REFUSED)
             self._item = all_names[min(len(values), len(all_names) - 1)]
             return c.Reply(*replies[-4:])
@@ -382,9 +382,10 @@ class Draft(Update):
             bank._make_room(self)
             if self._is_stale():
                 return False, None
-            self.number, self._renewals = bank._begin_txn(c.BEGIN_UPDATE, self._limit), bank.renewals
-            bank._note_name(self)
+            # transactions are numbered in the order of their begins
+            self.number, self._renewals = bank._begun + 1, bank.renewals
             outcome = self._give_events()
+            bank._note_name(self)
             if not outcome:
                 bank._abort(self.number)
                 return outcome, None
@@ -395,21 +396,20 @@ class Draft(Update):
 
     def _give_events(self) -> Optional[bool]:
         """Returns whether the replies are the values that the function saw, or None if an event is blocked."""
-        if not self._events:
-            return True
         numbers, wrote = self._bank._numbers, self._wrote
-        events: List[int] = []
+        events = [c.BEGIN_UPDATE, 0, 0, self._limit, 0]
         for kind, name in self._events:
             events += (kind, self.number, numbers[name], 0, wrote[name] if kind == c.WRITE else 0)
         try:
-            replies = self._bank._packed(events)
+            replies = self._bank._execute(events)
         except BaseException:
-            self._bank._feed.give_up()  # some of the events may have been executed
-            self._bank._abort(self.number)
+            # some of the events may have been executed
+            self._bank._feed.give_up()
+            c.library.esr_abort(self._bank._engine, self.number, c.Reply())
             raise
         if replies[-4] == c.REFUSED:
             return None
-        values = zip(self._events, replies[3::4])
+        values = zip(self._events, replies[7::4])
         return all(kind == c.WRITE or value == self._seen[name][1] for (kind, name), value in values)
 
 

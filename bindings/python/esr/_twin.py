@@ -52,8 +52,8 @@ class Opening:
 class Entries:
     """Accepted events and their replies, as the library has them in memory."""
 
-    events: List[bytes]
-    replies: List[bytes]
+    events: bytearray
+    replies: bytearray
 
 
 @dataclass(frozen=True)
@@ -93,9 +93,7 @@ class Feed:
         self._clear()
 
     def _clear(self) -> None:
-        self._events: List[bytes] = []
-        self._replies: List[bytes] = []
-        self._size = 0
+        self._events, self._replies = bytearray(), bytearray()
         self._max_size = MAX_LOGGED * c.EVENT.size
 
     def open(self, values: "ctypes.Array[ctypes.c_int64]", script: bytes) -> None:
@@ -122,12 +120,11 @@ class Feed:
         twin, self._twin = self._twin, None
         return twin
 
-    def push(self, events: bytes, replies: bytes) -> None:
+    def push(self, events: bytes, replies: "Union[bytes, ctypes.Array[ctypes.c_char], c.Reply]") -> None:
         """Logs accepted events."""
-        self._events.append(events)
-        self._replies.append(replies)
-        self._size += len(events)
-        if self._size >= self._max_size:
+        self._events += events
+        self._replies += replies
+        if len(self._events) >= self._max_size:
             if self._is_fed:
                 self._hand_over()
             else:
@@ -164,7 +161,7 @@ class Feed:
             self.give_up()
         elif self._events:
             self._twin.put(Entries(self._events, self._replies))
-            self._events, self._replies, self._size = [], [], 0
+            self._events, self._replies = bytearray(), bytearray()
 
     def ask(self, engine: c.Engine, query: int) -> "Optional[SimpleQueue[Optional[Audit]]]":
         """Requests the audit of a committed query of the first engine, at this point of the log. Returns None if there is no
@@ -251,7 +248,7 @@ class Auditor:
             finally:
                 part.answer.put(audit)
         elif isinstance(part, Entries):
-            if self._is_open and not self._replay(b"".join(part.events), b"".join(part.replies)):
+            if self._is_open and not self._replay(part.events, part.replies):
                 self._give_up()
         else:
             self._close()
@@ -272,16 +269,17 @@ class Auditor:
         status = c.library.esr_open_weighted(self._engine, values, self._count, self._weights, self._count)
         self._is_open = status == c.DONE
         entries = list(entries_of(opening.script.decode(), list(values)))
-        events = b"".join(event for event, _ in entries)
-        if self._is_open and not self._replay(events, b"".join(reply for _, reply in entries)):
+        events, replies = (bytearray().join(kind) for kind in (zip(*entries) if entries else ((), ())))
+        if self._is_open and not self._replay(events, replies):
             self._give_up()
 
-    def _replay(self, events: bytes, replies: bytes) -> bool:
+    def _replay(self, events: bytearray, replies: bytearray) -> bool:
         """Replays events, and returns whether the replies are those of the first engine. The reply to an event after a refusal
         or an error remains 0."""
         count = len(events) // c.EVENT.size
+        given = (ctypes.c_char * len(events)).from_buffer(events)
         mine = ctypes.create_string_buffer(len(replies))
-        c.library.esr_replay(self._engine, events, count, mine, count, True, ctypes.c_size_t())
+        c.library.esr_replay(self._engine, given, count, mine, count, True, ctypes.c_size_t())
         # padding may differ
         return mine.raw == replies or all(map(tuple.__eq__, c.REPLY.iter_unpack(mine.raw), c.REPLY.iter_unpack(replies)))
 

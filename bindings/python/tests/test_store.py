@@ -325,7 +325,7 @@ class Interrupts(Case):
     def test_one_between_the_commit_and_the_queue_loses_no_update(self):
         """Later updates read what the interrupted one wrote, so the store gets that too."""
         for optimistic in (True, False):
-            for name in ("_publish", "_answer"):
+            for name in ("_publish", "_end"):
                 store = HeldStore()
                 with Bank(OPENING, store=store, optimistic=optimistic) as bank:
                     call, interrupts = getattr(bank, name), [KeyboardInterrupt]
