@@ -21,7 +21,7 @@ use Rattle.esr_order.proofs.Accessed.{reads_are}
 use Rattle.esr_order.proofs.QueryReads.{reads_counted, reads_in_range}
 use Rattle.esr_bound.specs.Amounts.{total, cost_by}
 use Rattle.esr_bound.proofs.LowerBound.{range_in}
-use Rattle.esr_stream.specs.Reads.{values_of, list_at, distance_sum, raised, AreRead}
+use Rattle.esr_stream.specs.Reads.{values_of, list_at, distance_sum, raised, AreReadsInRange}
 
 abbrev on_item : ℕ → Access → Bool
 on_item x a = eqb a.item.0 x
@@ -115,16 +115,16 @@ by_item g n (o ∷ os) a =
 
 -- ---- the lists of values
 
-module _ (d : DistanceFunction) (h : Schedule) (q : ℕ) (opened : All IsValue h.opening) (legal : IsLegal d h) (lists : List (Vec ℤ Global)) (sized : length lists ≡ length h.opening) (is : (x : ℕ) → x < length h.opening → list_at lists x ≡ values_of (accesses_in h.entries q) x) where
+module _ (d : DistanceFunction) (h : Schedule) (q : ℕ) (opened : All IsValue h.opening) (legal : IsLegal d h) (values_read : List (Vec ℤ Global)) (sized : length values_read ≡ length h.opening) (is : (x : ℕ) → x < length h.opening → list_at values_read x ≡ values_of (accesses_in h.entries q) x) where
   range : IsWithinRanges h
   range = legal_within_ranges d h opened legal
 
-  pub costs_are : (S : ℕ → Bool) → cost_by (length h.opening) (raised (value_distance d h) lists) h q S ≡ length h.opening * 17592186044416 + cost d h q S
+  pub costs_are : (S : ℕ → Bool) → cost_by (length h.opening) (raised (value_distance d h) values_read) h q S ≡ length h.opening * 17592186044416 + cost d h q S
   costs_are S =
       let w : ℕ → ℤ = state h (members h q S) in
       let n : ℕ = length h.opening in
       let D = value_distance d h in
-      let parts : ℕ → ℕ = λ x. distance_sum D x (list_at lists x) (w x) in
+      let parts : ℕ → ℕ = λ x. distance_sum D x (list_at values_read x) (w x) in
       let each : ℕ → ℕ = λ x. sum_by (λ (o : Operation). cond (eqb o.item x) (D x o.value (w x)) 0) (reads_by h q) in
       let a : sum_by parts (range_with_len 0 n) ≡ sum_by each (range_with_len 0 n) =
       sum_same parts each (range_with_len 0 n) (each_in (λ x. parts x ≡ each x) (range_with_len 0 n) (λ x i.
@@ -136,8 +136,8 @@ module _ (d : DistanceFunction) (h : Schedule) (q : ℕ) (opened : All IsValue h
       plus_each parts 17592186044416 0 n
       ∙ ap (λ s. n * 17592186044416 + s) (a ∙ b)
 
-  past : (x : ℕ) → length h.opening ≤ x → list_at lists x ≡ []
-  past x l = get_past (map (λ (v : Vec ℤ Global). v.items) lists) x (omega (arith, length-map lists (λ (v : Vec ℤ Global). v.items), sized, l))
+  past : (x : ℕ) → length h.opening ≤ x → list_at values_read x ≡ []
+  past x l = get_past (map (λ (v : Vec ℤ Global). v.items) values_read) x (omega (arith, length-map values_read (λ (v : Vec ℤ Global). v.items), sized, l))
     where
       get_past : (xs : List (List ℤ)) (x : ℕ) → length xs ≤ x → get_or xs x [] ≡ []
       get_past [] x l = refl
@@ -164,7 +164,7 @@ module _ (d : DistanceFunction) (h : Schedule) (q : ℕ) (opened : All IsValue h
         at true rest = ((all.0).0, rest)
         at false rest = rest
 
-    pub are_read : AreRead lists
+    pub are_read : AreReadsInRange values_read
     are_read = record {
       count_within_max = λ x. elim (cases_lt x (length h.opening)) [
         | inl l ↦ let e = ap (λ (vs : List ℤ). length vs) (is x l ∙ values_are h q x) in let f = few_on x (reads_by h q) in omega (arith, e, f, few_reads)

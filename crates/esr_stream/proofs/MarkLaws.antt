@@ -15,7 +15,7 @@ use Rattle.esr_order.proofs.ConflictOrder.{in_order}
 use Rattle.esr_order.proofs.Batches.{up}
 use Rattle.esr_bound.specs.Amounts.{mark_at, among_marked, AreForced}
 use Rattle.esr_bound.proofs.LowerBound.{in_range, range_in, pairs_at}
-use Rattle.esr_stream.specs.Passes.{AreFirst}
+use Rattle.esr_stream.specs.Passes.{IsPrefixMarked}
 
 module _ (d : DistanceFunction) (h : Schedule) (q : ℕ) (legal : IsLegal d h) (marks : List Bool) where
   abbrev us : List ℕ
@@ -46,7 +46,7 @@ module _ (d : DistanceFunction) (h : Schedule) (q : ℕ) (legal : IsLegal d h) (
       (position_marked i l)
 
   -- a marked set with the predecessors of its members and the updates that q must see is closed
-  pub closed_set : (first : ℕ) → first ≡ length (must h q) → AreFirst first marks
+  pub closed_set : (first : ℕ) → first ≡ length (must h q) → IsPrefixMarked first marks
       → ((i j : ℕ) → i < j → j < length (updates_committed_before h q) → is_before h (nth (updates_committed_before h q) i) (nth (updates_committed_before h q) j) ≡ true → mark_at marks j ≡ true → mark_at marks i ≡ true)
       → IsClosed h q (among_marked (updates_committed_before h q) marks)
   closed_set first is firsts down = record {

@@ -11,7 +11,7 @@ use Rattle.esr_order.specs.Scans.{accesses_in}
 use Rattle.esr_order.proofs.ConflictOrder.{in_order}
 use Rattle.esr_bound.specs.Amounts.{mark_at, among_marked, left_by, left_by_all}
 use Rattle.esr_bound.proofs.LowerBound.{left_with, left_without, left_all}
-use Rattle.esr_stream.specs.Passes.{ItemState, state_at, written_in, AreFirst, IsRowApplied}
+use Rattle.esr_stream.specs.Passes.{ItemState, state_at, written_in, IsPrefixMarked, IsRowApplied}
 use Rattle.esr_stream.proofs.MarkLaws.{mark_is, position_marked}
 use Rattle.esr_stream.proofs.StepLaws.{written_is}
 
@@ -35,7 +35,7 @@ module _ (d : DistanceFunction) (h : Schedule) (q : ℕ) (legal : IsLegal d h) (
   ]
 
   -- if the first k updates are members, the members among them leave what all of them leave
-  pub cost_start : (C : ℕ → ℤ → ℕ) (k x : ℕ) → AreFirst k marks → C x (left_by_all h q k x) ≡ C x (left_by h q (among_marked (updates_committed_before h q) marks) k x)
+  pub cost_start : (C : ℕ → ℤ → ℕ) (k x : ℕ) → IsPrefixMarked k marks → C x (left_by_all h q k x) ≡ C x (left_by h q (among_marked (updates_committed_before h q) marks) k x)
   cost_start C k x firsts = ap (C x) (sym (left_all h q (in_order d h q legal) (among_marked (updates_committed_before h q) marks) k x (λ i l m w. position_marked d h q legal marks i m (firsts i l))))
 
   pub at_end : (k x : ℕ) → k ≡ length (updates_committed_before h q) → left_by h q (among_marked (updates_committed_before h q) marks) k x ≡ state h (members h q (among_marked (updates_committed_before h q) marks)) x

@@ -12,7 +12,7 @@ use Rattle.esr_order.specs.Scans.{accesses_in}
 use Rattle.esr_order.proofs.ConflictOrder.{in_order}
 use Rattle.esr_bound.specs.Amounts.{total, mark_at, left_by, left_by_all, HasSlack, Shows}
 use Rattle.esr_bound.proofs.LowerBound.{all_more, left_all, law_of_updates, law_of_end}
-use Rattle.esr_stream.specs.Passes.{ItemState, has_slack_at, amount_at, amounts_sum, AreFirst, AreStates, IsRowApplied, IsPassed, StayMarked}
+use Rattle.esr_stream.specs.Passes.{ItemState, has_slack_at, amount_at, amounts_sum, IsPrefixMarked, AreStates, IsRowApplied, IsPassInvariant, StayMarked}
 use Rattle.esr_stream.proofs.StepLaws.{total_states, states_after, step_made, slack_is}
 
 pub mark_same : (marks : List Bool) (k : ℕ) (marked : Bool) → k < length marks → mark_at (set marks k marked) k ≡ marked
@@ -43,7 +43,7 @@ module _ (d : DistanceFunction) (h : Schedule) (q : ℕ) (legal : IsLegal d h) (
 
   -- one more update of a pass
   module _ (worth k : ℕ) (seeds marks : List Bool) (marked : Bool) (row : List Access) (old new : List ItemState) (before after : ℕ)
-      (so_far : IsPassed (length h.opening) C h q worth k seeds marks old) (inside : k < length (updates_committed_before h q)) (sized : k < length marks)
+      (so_far : IsPassInvariant (length h.opening) C h q worth k seeds marks old) (inside : k < length (updates_committed_before h q)) (sized : k < length marks)
       (is_row : row ≡ accesses_in h.entries (nth (updates_committed_before h q) k)) (items : AllByRecursion (λ (a : Access). a.item.0 < length h.opening) row)
       (why : marked ≡ true → (mark_at marks k ≡ true) ⊎ (list_any (λ (a : Access). a.writes && has_slack_at old a.item.0) row ≡ true))
       (put : IsRowApplied C marked row old new before after) (keeps : before ≤ after) where
@@ -59,7 +59,7 @@ module _ (d : DistanceFunction) (h : Schedule) (q : ℕ) (legal : IsLegal d h) (
       | inr s ↦ inr (slack_is C h q k marks old row so_far.states is_row items s)
     ]
 
-    pub passed_more : IsPassed (length h.opening) C h q worth (k + 1) seeds (set marks k marked) new
+    pub passed_more : IsPassInvariant (length h.opening) C h q worth (k + 1) seeds (set marks k marked) new
     passed_more = record {
       states = states_after h q C k marked marks (set marks k marked) row old new before after so_far.states is_row (λ x. next k x inside) put earlier (mark_same marks k marked sized);
       later = λ j l. mark_other marks k j marked (λ e. omega (arith, l, e)) ∙ so_far.later j (omega (arith, l));
@@ -70,7 +70,7 @@ module _ (d : DistanceFunction) (h : Schedule) (q : ℕ) (legal : IsLegal d h) (
     }
 
   -- a pass starts at a position before which all updates are marked
-  pub passed_from : (k worth : ℕ) (marks : List Bool) (states : List ItemState) → k ≤ length (updates_committed_before h q) → AreFirst k marks → worth ≤ amounts_sum states → AreStates C h q k marks states → IsPassed (length h.opening) C h q worth k marks marks states
+  pub passed_from : (k worth : ℕ) (marks : List Bool) (states : List ItemState) → k ≤ length (updates_committed_before h q) → IsPrefixMarked k marks → worth ≤ amounts_sum states → AreStates C h q k marks states → IsPassInvariant (length h.opening) C h q worth k marks marks states
   passed_from k worth marks states inside firsts low are = record {
     states = are;
     later = λ j l. refl;
@@ -92,7 +92,7 @@ module _ (d : DistanceFunction) (h : Schedule) (q : ℕ) (legal : IsLegal d h) (
   }
 
   -- and ends
-  pub passed_end : (worth k : ℕ) (seeds marks : List Bool) (states : List ItemState) → k ≡ length (updates_committed_before h q) → IsPassed (length h.opening) C h q worth k seeds marks states → Shows (length h.opening) C h q worth seeds marks
+  pub passed_end : (worth k : ℕ) (seeds marks : List Bool) (states : List ItemState) → k ≡ length (updates_committed_before h q) → IsPassInvariant (length h.opening) C h q worth k seeds marks states → Shows (length h.opening) C h q worth seeds marks
   passed_end worth k seeds marks states e is =
-      let at_end = subst (λ m. IsPassed (length h.opening) C h q worth m seeds marks states) e is in
+      let at_end = subst (λ m. IsPassInvariant (length h.opening) C h q worth m seeds marks states) e is in
       law_of_end h q (length h.opening) C worth (amount_at states) seeds marks (λ S closed has. at_end.carries S closed has)

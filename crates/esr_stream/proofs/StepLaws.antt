@@ -21,7 +21,7 @@ use Rattle.esr_order.specs.Chains.{nth}
 use Rattle.esr_bound.specs.Amounts.{total, mark_at, Wrote, left_by_all, AreCovered, HasSlack, IsStep}
 use Rattle.esr_history.proofs.LastWriter.{empty_or_not}
 use Rattle.esr_history.proofs.Membership.{In, In-any, In-of_filter, each_in, each_at}
-use Rattle.esr_stream.specs.Passes.{ItemState, state_at, is_write, written_in, has_slack_at, amount_at, as_covered, AreFirst, AreStates, AreOpening, IsRowApplied}
+use Rattle.esr_stream.specs.Passes.{ItemState, state_at, is_write, written_in, has_slack_at, amount_at, as_covered, IsPrefixMarked, AreStates, AreOpening, IsRowApplied}
 
 map_if : {X : Type 0} (f : X → ℤ) (b : Bool) (x : X) (xs : List X) → map f (cond b (x ∷ xs) xs) ≡ cond b (f x ∷ map f xs) (map f xs)
 map_if f true x xs = refl
@@ -237,7 +237,7 @@ covered_at [] x l = absurd (omega arith)
 covered_at (s ∷ states) zero l = refl
 covered_at (s ∷ states) (suc x) l = covered_at states x (omega arith)
 
-pub states_covered : (h : Schedule) (q : ℕ) (C : ℕ → ℤ → ℕ) (k : ℕ) (marks ms : List Bool) (states copy : List ItemState) → copy ≡ map as_covered states → AreFirst k ms → AreStates C h q k marks states → AreStates C h q k ms copy
+pub states_covered : (h : Schedule) (q : ℕ) (C : ℕ → ℤ → ℕ) (k : ℕ) (marks ms : List Bool) (states copy : List ItemState) → copy ≡ map as_covered states → IsPrefixMarked k ms → AreStates C h q k marks states → AreStates C h q k ms copy
 states_covered h q C k marks ms states copy e firsts are =
     let at : (x : ℕ) → x < length h.opening → state_at copy x ≡ as_covered (state_at states x) = λ x l. ap (λ (m : List ItemState). state_at m x) e ∙ covered_at states x (omega (arith, l, are.len)) in
     record {

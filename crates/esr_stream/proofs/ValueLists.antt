@@ -18,7 +18,7 @@ pub no_value : (x : ℕ) (a : Access) → is_read x a ≡ false → values_of (a
 no_value x a e = one_read x a false e
 
 -- a value was appended to the list of its item
-module _ (lists : List (Vec ℤ Global)) (read : Access) (reads : read.writes ≡ false) (was now : Vec ℤ Global) (inside : read.item.0 < length lists) (is : was ≡ get_or lists read.item.0 was) (grown : now.items ≡ was.items ++ read.value ∷ []) where
+module _ (values_read : List (Vec ℤ Global)) (read : Access) (reads : read.writes ≡ false) (was now : Vec ℤ Global) (inside : read.item.0 < length values_read) (is : was ≡ get_or values_read read.item.0 was) (grown : now.items ≡ was.items ++ read.value ∷ []) where
   abbrev seen : Vec ℤ Global → List ℤ
   seen v = v.items
 
@@ -28,27 +28,27 @@ module _ (lists : List (Vec ℤ Global)) (read : Access) (reads : read.writes �
   elsewhere : (x : ℕ) → (x ≡ read.item.0 → ⊥) → is_read x read ≡ false
   elsewhere x ne = ap (λ w. not w && eqb read.item.0 x) reads ∙ ne_eqb read.item.0 x (λ q. ne (sym q))
 
-  at_item : list_at (set lists read.item.0 now) read.item.0 ≡ list_at lists read.item.0 ++ values_of (read ∷ []) read.item.0
+  at_item : list_at (set values_read read.item.0 now) read.item.0 ≡ list_at values_read read.item.0 ++ values_of (read ∷ []) read.item.0
   at_item =
-      ap (λ l. get_or l read.item.0 []) (map-set seen lists read.item.0 now)
-      ∙ get_or-set_same (map seen lists) read.item.0 now.items [] (omega (arith, inside, length-map lists seen))
+      ap (λ l. get_or l read.item.0 []) (map-set seen values_read read.item.0 now)
+      ∙ get_or-set_same (map seen values_read) read.item.0 now.items [] (omega (arith, inside, length-map values_read seen))
       ∙ grown
-      ∙ ap (λ vs. vs ++ read.value ∷ []) (list_is lists read.item.0 was inside is)
-      ∙ ap (λ vs. list_at lists read.item.0 ++ vs) (sym (one_read read.item.0 read true here))
+      ∙ ap (λ vs. vs ++ read.value ∷ []) (list_is values_read read.item.0 was inside is)
+      ∙ ap (λ vs. list_at values_read read.item.0 ++ vs) (sym (one_read read.item.0 read true here))
 
-  pub put_at : (x : ℕ) → list_at (set lists read.item.0 now) x ≡ list_at lists x ++ values_of (read ∷ []) x
+  pub put_at : (x : ℕ) → list_at (set values_read read.item.0 now) x ≡ list_at values_read x ++ values_of (read ∷ []) x
   put_at x = elim (cases_eq x read.item.0) [
-    | inl e ↦ subst (λ y. list_at (set lists read.item.0 now) y ≡ list_at lists y ++ values_of (read ∷ []) y) (sym e) at_item
+    | inl e ↦ subst (λ y. list_at (set values_read read.item.0 now) y ≡ list_at values_read y ++ values_of (read ∷ []) y) (sym e) at_item
     | inr ne ↦
-        ap (λ l. get_or l x []) (map-set seen lists read.item.0 now)
-        ∙ get_or-set_other (map seen lists) read.item.0 x now.items [] ne
-        ∙ sym (append-nil (list_at lists x))
-        ∙ ap (λ vs. list_at lists x ++ vs) (sym (one_read x read false (elsewhere x ne)))
+        ap (λ l. get_or l x []) (map-set seen values_read read.item.0 now)
+        ∙ get_or-set_other (map seen values_read) read.item.0 x now.items [] ne
+        ∙ sym (append-nil (list_at values_read x))
+        ∙ ap (λ vs. list_at values_read x ++ vs) (sym (one_read x read false (elsewhere x ne)))
   ]
 
 -- nothing was appended
-pub not_put : (lists : List (Vec ℤ Global)) (read : Access) (x : ℕ) → is_read x read ≡ false → list_at lists x ≡ list_at lists x ++ values_of (read ∷ []) x
-not_put lists read x e = sym (append-nil (list_at lists x)) ∙ ap (λ vs. list_at lists x ++ vs) (sym (no_value x read e))
+pub not_put : (values_read : List (Vec ℤ Global)) (read : Access) (x : ℕ) → is_read x read ≡ false → list_at values_read x ≡ list_at values_read x ++ values_of (read ∷ []) x
+not_put values_read read x e = sym (append-nil (list_at values_read x)) ∙ ap (λ vs. list_at values_read x ++ vs) (sym (no_value x read e))
 
 pub values_append : (before after : List Access) (x : ℕ) → values_of (before ++ after) x ≡ values_of before x ++ values_of after x
 values_append [] after x = refl

@@ -1,4 +1,5 @@
--- The state of each item along the updates of a query, and the effect of one update on it.
+-- The state of each item along the updates of a query, the effect of one update on it, the invariant of a pass, and its
+-- result.
 use Rattle.std.specs.Prelude.{◌≡◌, ◌≤◌, ◌<◌, ◌+◌, ◌&&◌, ◌==◌, ℕ, ℤ, Bool, true, false, nat_lt, List, [], length, filter, map, sum_by, slice_index_or}
 use Rattle.esr_items.specs.Values.{value_at}
 use Rattle.esr_history.specs.Events.{last_value}
@@ -16,10 +17,11 @@ no_state = record { cost = 0; amount = 0; covered = false }
 abbrev pub state_at : List ItemState → ℕ → ItemState
 state_at states x = slice_index_or states x no_state
 
--- the values that accesses write to item x, in order
+-- whether an access writes item x
 abbrev pub is_write : ℕ → Access → Bool
 is_write x a = a.writes && (a.item.0 == x)
 
+-- the values that accesses write to item x, in order
 abbrev pub written_in : ℕ → List Access → List ℤ
 written_in x row = map (λ a. a.value) (filter (is_write x) row)
 
@@ -32,7 +34,7 @@ amounts_sum states = sum_by (λ i. i.amount) states
 abbrev pub costs_sum : List ItemState → ℕ
 costs_sum states = sum_by (λ i. i.cost) states
 
--- the state of an item whose writers are all covered
+-- the state with `covered` set
 abbrev pub as_covered : ItemState → ItemState
 as_covered s = record { cost = s.cost; amount = s.amount; covered = true }
 
@@ -40,15 +42,15 @@ as_covered s = record { cost = s.cost; amount = s.amount; covered = true }
 abbrev pub has_slack_at : List ItemState → ℕ → Bool
 has_slack_at states x = (state_at states x).covered && nat_lt (state_at states x).amount (state_at states x).cost
 
--- the states after the first k updates of q, if version v of item x costs C x v
+-- the states after the first k of the updates committed before q, if version v of item x costs C x v
 pub record AreStates (C : ℕ → ℤ → ℕ) (h : Schedule) (q k : ℕ) (marks : List Bool) (states : List ItemState) : Type 0 where
   pub len : length states ≡ length h.opening
   pub cost : (x : ℕ) → x < length h.opening → (state_at states x).cost ≡ C x (left_by_all h q k x)
   pub under : (x : ℕ) → x < length h.opening → amount_at states x ≤ (state_at states x).cost
   pub covered : (x : ℕ) → x < length h.opening → (state_at states x).covered ≡ true → AreCovered h q k marks x
 
--- The effect of the accesses of one update, marked or not, on the states. The versions that it overwrites had amounts that
--- sum to `before`, and the versions that it leaves have amounts that sum to `after`.
+-- The effect of the accesses of one update, marked or not, on the states. `after` less `before` is the change of the sum of
+-- the amounts.
 pub record IsRowApplied (C : ℕ → ℤ → ℕ) (marked : Bool) (row : List Access) (old new : List ItemState) (before after : ℕ) : Type 0 where
   pub len : length new ≡ length old
   pub others : (x : ℕ) → written_in x row ≡ [] → state_at new x ≡ state_at old x
@@ -63,28 +65,28 @@ pub record AreOpening (C : ℕ → ℤ → ℕ) (opening : List ℤ) (n : ℕ) (
   pub cost : (x : ℕ) → x < n → (state_at states x).cost ≡ C x (value_at opening x)
   pub under : (x : ℕ) → x < n → amount_at states x ≤ (state_at states x).cost
 
--- After the first k updates, if a pass started with the marks `seeds`: the states are those after k updates, later marks are
+-- The invariant of a pass that started with the marks `seeds`, after the first k updates: the states are those after k updates, later marks are
 -- those of the seeds, and for each closed set with all seeds, the versions that it leaves carry the worth.
-pub record IsPassed (n : ℕ) (C : ℕ → ℤ → ℕ) (h : Schedule) (q worth k : ℕ) (seeds marks : List Bool) (items : List ItemState) : Type 0 where
-  pub states : AreStates C h q k marks items
+pub record IsPassInvariant (n : ℕ) (C : ℕ → ℤ → ℕ) (h : Schedule) (q worth k : ℕ) (seeds marks : List Bool) (states_after : List ItemState) : Type 0 where
+  pub states : AreStates C h q k marks states_after
   pub later : (j : ℕ) → k ≤ j → mark_at marks j ≡ mark_at seeds j
-  pub carries : (S : ℕ → Bool) → IsClosed h q S → HasMarked h q seeds S → Carries n C h q worth k (amount_at items) marks S
+  pub carries : (S : ℕ → Bool) → IsClosed h q S → HasMarked h q seeds S → Carries n C h q worth k (amount_at states_after) marks S
 
--- marks of updates of which each closed set of cost at most `worth` has all, and which are themselves a closed set; no
--- closed set costs less
-pub record AreShown (n : ℕ) (C : ℕ → ℤ → ℕ) (h : Schedule) (q worth : ℕ) (marks : List Bool) : Type 0 where
+-- Every closed set costs at least `worth`; each closed set of this cost has all marked updates; the marked updates are
+-- themselves a closed set.
+pub record AreForcedAndClosed (n : ℕ) (C : ℕ → ℤ → ℕ) (h : Schedule) (q worth : ℕ) (marks : List Bool) : Type 0 where
   pub bound : (S : ℕ → Bool) → IsClosed h q S → worth ≤ cost_by n C h q S
   pub forced : AreForced n C h q worth marks
   pub closed : IsClosed h q (among_marked (updates_committed_before h q) marks)
 
--- the first k updates are marked
-abbrev pub AreFirst : ℕ → List Bool → Type 0
-AreFirst k marks = (i : ℕ) → i < k → mark_at marks i ≡ true
+-- the first k updates are all marked
+abbrev pub IsPrefixMarked : ℕ → List Bool → Type 0
+IsPrefixMarked k marks = (i : ℕ) → i < k → mark_at marks i ≡ true
 
 -- each update that was marked still is
 abbrev pub StayMarked : List Bool → List Bool → Type 0
 StayMarked old new = (i : ℕ) → mark_at old i ≡ true → mark_at new i ≡ true
 
--- the least distance of a query, and in commit order the smallest set of updates before a position of that distance
+-- the distance of a query, and the updates before it in its nearest placement, in commit order
 abbrev pub IsLeast : DistanceFunction → Schedule → ℕ → ℕ → List ℕ → Type 0
 IsLeast d h q distance before = (distance ≡ least_distance d h q) × (before ≡ nearest_placement d h q)

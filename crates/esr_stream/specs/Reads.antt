@@ -13,9 +13,9 @@ values_of row x = map (λ a. a.value) (filter (λ a. not a.writes && (a.item.0 =
 
 -- the cost of version v of item x if these are the values read, plus the offset
 abbrev pub raised : (ℕ → ℤ → ℤ → ℕ) → List (Vec ℤ Global) → ℕ → ℤ → ℕ
-raised D lists x v = distance_sum D x (list_at lists x) v + OFFSET
+raised D values_read x v = distance_sum D x (list_at values_read x) v + OFFSET
 
--- lists of values that one query can have read
-pub record AreRead (lists : List (Vec ℤ Global)) : Type 0 where
-  pub count_within_max : (x : ℕ) → length (list_at lists x) ≤ MAX_READS
-  pub values : (x : ℕ) → All IsValue (list_at lists x)
+-- a query can have read these values: each item's are not too many and in range
+pub record AreReadsInRange (values_read : List (Vec ℤ Global)) : Type 0 where
+  pub count_within_max : (x : ℕ) → length (list_at values_read x) ≤ MAX_READS
+  pub values : (x : ℕ) → All IsValue (list_at values_read x)

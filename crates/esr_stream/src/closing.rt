@@ -10,7 +10,7 @@ ghost use Rattle.esr_order.specs.Placements.{IsClosed};
 ghost use Rattle.esr_order.specs.BackwardSearch.{conflicts_with, is_access, marked};
 ghost use Rattle.esr_bound.specs.Amounts.{AreForced, among_marked};
 ghost use Rattle.esr_stream.specs.Closing.{IsAdded, seen_later};
-ghost use Rattle.esr_stream.specs.Passes.{AreFirst, StayMarked};
+ghost use Rattle.esr_stream.specs.Passes.{IsPrefixMarked, StayMarked};
 
 use esr_history::{History, TxnId};
 use esr_items::Metric;
@@ -135,8 +135,8 @@ pub fn close<M: Metric>(
     ensures forced { IfOk result (λ _. (n worth : ℕ) (C : ℕ → ℤ → ℕ)
         → AreForced n C history.now.schedule q.0 worth marks.old
         → AreForced n C history.now.schedule q.0 worth marks.new) }
-    ensures closed { IfOk result (λ _. AreFirst (length (must history.now.schedule q.0)) marks.old
-        → AreFirst from marks.old → IsClosed history.now.schedule q.0 (among_marked (updates_committed_before history.now.schedule q.0) marks.new)) }
+    ensures closed { IfOk result (λ _. IsPrefixMarked (length (must history.now.schedule q.0)) marks.old
+        → IsPrefixMarked from marks.old → IsClosed history.now.schedule q.0 (among_marked (updates_committed_before history.now.schedule q.0) marks.new)) }
 {
     let _invariant = history.log(); // brings the invariant into the proof
     let mut later = no_later(alloc, history.items())?;

@@ -4,9 +4,9 @@ ghost use Rattle.std.specs.List.{list_any};
 ghost use Rattle.esr_items.specs.Values.{IsValue};
 ghost use Rattle.esr_order.specs.declared.accesses.Access.{Access as AccessValue};
 ghost use Rattle.esr_stream.specs.Passes.{AreStates, IsRowApplied, ItemState as StateValue, amounts_sum, as_covered, costs_sum, has_slack_at};
-ghost use Rattle.esr_stream.specs.Reads.{AreRead, raised};
+ghost use Rattle.esr_stream.specs.Reads.{AreReadsInRange, raised};
 
-use crate::draft::Version;
+use crate::amounts::Version;
 use crate::reads::raised_cost;
 use esr_history::History;
 use esr_items::{ItemId, Metric};
@@ -40,19 +40,19 @@ fn amount_at(versions: &[Version], id: usize) -> u64 {
 pub fn opening_states<M: Metric>(
     alloc: Global,
     history: &History<M>,
-    lists: &[Vec<i64>],
+    values_read: &[Vec<i64>],
     amounts: &[Version],
 ) -> Result<Vec<ItemState>, AllocError>
-    requires items { length lists.now ≡ length history.now.schedule.opening }
-    requires read { AreRead lists.now }
+    requires list_per_item { length values_read.now ≡ length history.now.schedule.opening }
+    requires reads_in_range { AreReadsInRange values_read.now }
     ensures { IfOk result (λ states. (q : ℕ) (marks : List Bool)
-        → AreStates (raised (M.distance_by history.now.schedule.weights) lists.now) history.now.schedule q 0 marks states.items) }
+        → AreStates (raised (M.distance_by history.now.schedule.weights) values_read.now) history.now.schedule q 0 marks states.items) }
 {
     let mut states = Vec::with_capacity(alloc, history.items() as usize)?;
     for x in 0..history.items() {
         let cost = raised_cost(
             history.metric(),
-            lists,
+            values_read,
             ItemId(x),
             history.opening(ItemId(x)),
         );
@@ -106,24 +106,24 @@ struct Moved {
 /// Applies a write to the state of its item.
 fn apply_write<M: Metric>(
     metric: &M,
-    lists: &[Vec<i64>],
+    values_read: &[Vec<i64>],
     states: &mut [ItemState],
     access: Access,
     amount: u64,
     marked: bool,
 ) -> Moved
-    requires items { length lists.now ≡ length states.old }
-    requires read { AreRead lists.now }
+    requires list_per_item { length values_read.now ≡ length states.old }
+    requires reads_in_range { AreReadsInRange values_read.now }
     requires item { access.item.0 < length states.old }
     requires value { IsValue access.value }
     requires writes { access.writes ≡ true }
     ensures { (row : List AccessValue) (old : List StateValue) (before after : ℕ)
-        → IsRowApplied (raised (M.distance_by (M.weights metric.now)) lists.now) marked row old states.old before after
-        → IsRowApplied (raised (M.distance_by (M.weights metric.now)) lists.now) marked (row ++ access ∷ []) old states.new
+        → IsRowApplied (raised (M.distance_by (M.weights metric.now)) values_read.now) marked row old states.old before after
+        → IsRowApplied (raised (M.distance_by (M.weights metric.now)) values_read.now) marked (row ++ access ∷ []) old states.new
         (before + result.before) (after + result.after) }
 {
     let x = access.item.0 as usize;
-    let cost = raised_cost(metric, lists, access.item, access.value);
+    let cost = raised_cost(metric, values_read, access.item, access.value);
     let before = states[x].amount;
     let lowered = amount.min(cost);
     states[x] = ItemState {
@@ -141,19 +141,19 @@ fn apply_write<M: Metric>(
 /// or `None` if a sum does not fit.
 fn apply_row<M: Metric>(
     metric: &M,
-    lists: &[Vec<i64>],
+    values_read: &[Vec<i64>],
     states: &mut [ItemState],
     row: &[Access],
     amounts: &[Version],
     marked: bool,
 ) -> Option<bool>
-    requires items { length lists.now ≡ length states.old }
-    requires read { AreRead lists.now }
+    requires list_per_item { length values_read.now ≡ length states.old }
+    requires reads_in_range { AreReadsInRange values_read.now }
     requires row { All (λ a. a.item.0 < length states.old) row.now }
     requires values { All (λ a. IsValue a.value) row.now }
     ensures len { length states.new ≡ length states.old }
     ensures row { IfSome result (λ keeps. (before : ℕ) × (after : ℕ)
-        × IsRowApplied (raised (M.distance_by (M.weights metric.now)) lists.now) marked row.now states.old states.new before after
+        × IsRowApplied (raised (M.distance_by (M.weights metric.now)) values_read.now) marked row.now states.old states.new before after
         × (keeps ≡ true → before ≤ after)) }
 {
     let mut before = 0u64;
@@ -162,7 +162,7 @@ fn apply_row<M: Metric>(
         let access = row[j];
         if access.writes {
             let amount = amount_at(amounts, j);
-            let moved = apply_write(metric, lists, states, access, amount, marked);
+            let moved = apply_write(metric, values_read, states, access, amount, marked);
             before = add(before, moved.before)?;
             after = add(after, moved.after)?;
         }
@@ -173,20 +173,20 @@ fn apply_row<M: Metric>(
 /// Applies the accesses of an update. Returns `false` if a sum does not fit.
 pub fn fits<M: Metric>(
     metric: &M,
-    lists: &[Vec<i64>],
+    values_read: &[Vec<i64>],
     states: &mut [ItemState],
     row: &[Access],
     amounts: &[Version],
 ) -> bool
-    requires items { length lists.now ≡ length states.old }
-    requires read { AreRead lists.now }
+    requires list_per_item { length values_read.now ≡ length states.old }
+    requires reads_in_range { AreReadsInRange values_read.now }
     requires row { All (λ a. a.item.0 < length states.old) row.now }
     requires values { All (λ a. IsValue a.value) row.now }
     ensures len { length states.new ≡ length states.old }
     ensures row { result ≡ true → (before : ℕ) × (after : ℕ)
-        × IsRowApplied (raised (M.distance_by (M.weights metric.now)) lists.now) true row.now states.old states.new before after }
+        × IsRowApplied (raised (M.distance_by (M.weights metric.now)) values_read.now) true row.now states.old states.new before after }
 {
-    match apply_row(metric, lists, states, row, amounts, true) {
+    match apply_row(metric, values_read, states, row, amounts, true) {
         Some(_) => true,
         None => false,
     }
@@ -195,22 +195,22 @@ pub fn fits<M: Metric>(
 /// Applies the accesses of an update. Returns `false` if the sum of the amounts decreases or does not fit.
 pub fn steps<M: Metric>(
     metric: &M,
-    lists: &[Vec<i64>],
+    values_read: &[Vec<i64>],
     states: &mut [ItemState],
     row: &[Access],
     amounts: &[Version],
     marked: bool,
 ) -> bool
-    requires items { length lists.now ≡ length states.old }
-    requires read { AreRead lists.now }
+    requires list_per_item { length values_read.now ≡ length states.old }
+    requires reads_in_range { AreReadsInRange values_read.now }
     requires row { All (λ a. a.item.0 < length states.old) row.now }
     requires values { All (λ a. IsValue a.value) row.now }
     ensures len { length states.new ≡ length states.old }
     ensures row { result ≡ true → (before : ℕ) × (after : ℕ)
-        × IsRowApplied (raised (M.distance_by (M.weights metric.now)) lists.now) marked row.now states.old states.new before after
+        × IsRowApplied (raised (M.distance_by (M.weights metric.now)) values_read.now) marked row.now states.old states.new before after
         × (before ≤ after) }
 {
-    match apply_row(metric, lists, states, row, amounts, marked) {
+    match apply_row(metric, values_read, states, row, amounts, marked) {
         Some(keeps) => keeps,
         None => false,
     }
@@ -219,22 +219,22 @@ pub fn steps<M: Metric>(
 /// Applies the accesses of an update, if it is marked. Returns `false` if a sum does not fit.
 pub fn fits_if<M: Metric>(
     metric: &M,
-    lists: &[Vec<i64>],
+    values_read: &[Vec<i64>],
     states: &mut [ItemState],
     row: &[Access],
     marked: bool,
 ) -> bool
-    requires items { length lists.now ≡ length states.old }
-    requires read { AreRead lists.now }
+    requires list_per_item { length values_read.now ≡ length states.old }
+    requires reads_in_range { AreReadsInRange values_read.now }
     requires row { All (λ a. a.item.0 < length states.old) row.now }
     requires values { All (λ a. IsValue a.value) row.now }
     ensures len { length states.new ≡ length states.old }
     ensures member { result ≡ true → marked ≡ true → (before : ℕ) × (after : ℕ)
-        × IsRowApplied (raised (M.distance_by (M.weights metric.now)) lists.now) true row.now states.old states.new before after }
+        × IsRowApplied (raised (M.distance_by (M.weights metric.now)) values_read.now) true row.now states.old states.new before after }
     ensures other { marked ≡ false → states.new ≡ states.old }
 {
     if marked {
-        fits(metric, lists, states, row, &[])
+        fits(metric, values_read, states, row, &[])
     } else {
         true
     }

@@ -1,24 +1,26 @@
-//! The least distance of a query and its smallest set, if the amounts of the draft show them.
+//! The least distance of a query and the smallest closed set of this cost, if the proposed amounts prove them.
 ghost use Rattle.std.specs.Prelude.{◌≡◌, ◌≤◌, ◌<◌, ◌+◌, ◌*◌, ◌++◌, ◌∷◌, [], ℕ, OnOk, if◌then◌else◌, Bool, List, IfOk, IfSome, length, map, nat_lt, true};
 ghost use Rattle.esr_history.specs.Queries.{is_committed_query, members, must, updates_committed_before};
 ghost use Rattle.esr_order.specs.Index.{IsWholeIndexOf};
 ghost use Rattle.esr_order.specs.Scans.{accesses_in};
 ghost use Rattle.esr_bound.specs.Amounts.{among_marked, cost_by, mark_at};
-ghost use Rattle.esr_stream.specs.Passes.{AreFirst, AreShown, AreStates, IsLeast, amounts_sum};
-ghost use Rattle.esr_stream.specs.Reads.{AreRead, list_at, raised, values_of};
+ghost use Rattle.esr_stream.specs.Passes.{IsPrefixMarked, AreForcedAndClosed, AreStates, IsLeast, amounts_sum};
+ghost use Rattle.esr_stream.specs.Reads.{AreReadsInRange, list_at, raised, values_of};
 
-use crate::draft::Draft;
+use crate::amounts::ProposedAmounts;
 use crate::items::{ItemState, costs_of, fits_if, sum_of};
 use crate::pass::start;
 use crate::reads::{OFFSET, values_by_item};
-use crate::rounds::{RoundEnd, are_first, copy_of, count_first, first_marks, mark_least, round};
-use crate::search::draft;
+use crate::rounds::{
+    RoundEnd, copy_of, first_marks, is_prefix_marked, mark_least, marked_prefix_len, round,
+};
+use crate::search::propose_amounts;
 use esr_history::{History, TxnId};
 use esr_items::Metric;
 use esr_order::{Index, count_must, is_committed_query, updates_before};
 use std::alloc::{AllocError, Global};
 
-/// The least distance of a query from its placements, and the smallest set of updates before a position of that distance.
+/// The distance of a query, and the updates before it in its nearest placement.
 #[derive(Drop)]
 pub struct Least {
     pub distance: u64,
@@ -26,7 +28,7 @@ pub struct Least {
     pub before: Vec<TxnId>,
 }
 
-/// The number of updates between the middle of the first round and the begin of the query.
+/// The number of updates between the checkpoint of the first round and the beginning of the query.
 const MARGIN: usize = 1024;
 
 /// Appends a transaction, if it is marked.
@@ -68,29 +70,29 @@ fn cost_of<M: Metric>(
     index: &Index,
     updates: &[TxnId],
     from: usize,
-    lists: &[Vec<i64>],
+    values_read: &[Vec<i64>],
     states: &mut [ItemState],
     marks: &[bool],
     q: TxnId,
 ) -> Result<Option<u64>, AllocError>
     requires index { IsWholeIndexOf history.now.schedule.entries index.now }
-    requires items { length lists.now ≡ length history.now.schedule.opening }
-    requires read { AreRead lists.now }
+    requires list_per_item { length values_read.now ≡ length history.now.schedule.opening }
+    requires reads_in_range { AreReadsInRange values_read.now }
     requires updates { map (λ t. t.0) updates.now ≡ updates_committed_before history.now.schedule q.0 }
     requires from { from ≤ length updates.now }
     requires marks { length marks.now ≡ length updates.now }
-    requires firsts { AreFirst from marks.now }
-    requires states { AreStates (raised (M.distance_by history.now.schedule.weights) lists.now) history.now.schedule q.0 from
+    requires prefix_marked { IsPrefixMarked from marks.now }
+    requires states { AreStates (raised (M.distance_by history.now.schedule.weights) values_read.now) history.now.schedule q.0 from
         marks.now states.old }
     ensures { IfOk result (λ found. IfSome found (λ cost. cost
-        ≡ cost_by (length history.now.schedule.opening) (raised (M.distance_by history.now.schedule.weights) lists.now)
+        ≡ cost_by (length history.now.schedule.opening) (raised (M.distance_by history.now.schedule.weights) values_read.now)
         history.now.schedule q.0 (among_marked (updates_committed_before history.now.schedule q.0) marks.now))) }
 {
     let _invariant = history.log(); // brings the invariant into the proof
     let mut list = Vec::new(alloc);
     for i in from..updates.len() {
         let row = index.accesses_of(history, updates[i], &mut list)?;
-        let fit = fits_if(history.metric(), lists, states, row, marks[i]);
+        let fit = fits_if(history.metric(), values_read, states, row, marks[i]);
         if !fit {
             return Ok(None);
         }
@@ -101,7 +103,7 @@ fn cost_of<M: Metric>(
     Ok(Some(cost))
 }
 
-/// Returns the cost without the offset of each item, or `None` if it is less.
+/// Returns the cost without the offset of each item, or `None` if the cost is less than their sum.
 fn without_offsets(cost: u64, items: u32) -> Option<u64>
     ensures { IfSome result (λ rest. items * OFFSET + rest ≡ cost) }
 {
@@ -116,38 +118,38 @@ fn least_from<M: Metric>(
     index: &Index,
     updates: &[TxnId],
     from: usize,
-    lists: &[Vec<i64>],
-    begin: &[ItemState],
+    values_read: &[Vec<i64>],
+    start_states: &[ItemState],
     worth: u64,
     marks: &[bool],
     q: TxnId,
 ) -> Result<Option<Least>, AllocError>
     requires index { IsWholeIndexOf history.now.schedule.entries index.now }
     requires query { is_committed_query history.now.schedule q.0 ≡ true }
-    requires items { length lists.now ≡ length history.now.schedule.opening }
-    requires lists { (x : ℕ) → x < length history.now.schedule.opening → list_at lists.now x
+    requires list_per_item { length values_read.now ≡ length history.now.schedule.opening }
+    requires values_read { (x : ℕ) → x < length history.now.schedule.opening → list_at values_read.now x
         ≡ values_of (accesses_in history.now.schedule.entries q.0) x }
     requires updates { map (λ t. t.0) updates.now ≡ updates_committed_before history.now.schedule q.0 }
     requires from { from ≤ length updates.now }
     requires marks { length marks.now ≡ length updates.now }
-    requires firsts { AreFirst from marks.now }
-    requires begin { (ms : List Bool) → AreFirst from ms
-        → AreStates (raised (M.distance_by history.now.schedule.weights) lists.now) history.now.schedule q.0 from ms
-        begin.now }
-    requires shown { AreShown (length history.now.schedule.opening)
-        (raised (M.distance_by history.now.schedule.weights) lists.now) history.now.schedule q.0 worth marks.now }
+    requires prefix_marked { IsPrefixMarked from marks.now }
+    requires start_states { (ms : List Bool) → IsPrefixMarked from ms
+        → AreStates (raised (M.distance_by history.now.schedule.weights) values_read.now) history.now.schedule q.0 from ms
+        start_states.now }
+    requires forced_and_closed { AreForcedAndClosed (length history.now.schedule.opening)
+        (raised (M.distance_by history.now.schedule.weights) values_read.now) history.now.schedule q.0 worth marks.now }
     ensures { IfOk result (λ found. IfSome found (λ l. IsLeast M.distance_by history.now.schedule q.0 l.distance
         (map (λ t. t.0) l.before.items))) }
 {
     let _invariant = history.log(); // brings the invariant into the proof
-    let mut states = copy_of(alloc, begin)?;
+    let mut states = copy_of(alloc, start_states)?;
     let found = cost_of(
         alloc,
         history,
         index,
         updates,
         from,
-        lists,
+        values_read,
         &mut states,
         marks,
         q,
@@ -165,48 +167,69 @@ fn least_from<M: Metric>(
     Ok(Some(Least { distance, before }))
 }
 
-/// Returns the least distance of a query from the states at a position before which all updates are marked.
+/// Starts from the states at the position `from`, before which all updates are marked. Returns the least distance of the query,
+/// if the amounts prove it.
 fn find_from<M: Metric>(
     alloc: Global,
     history: &History<M>,
     index: &Index,
     updates: &[TxnId],
     from: usize,
-    lists: &[Vec<i64>],
-    drafted: &Draft,
-    begin: &[ItemState],
+    values_read: &[Vec<i64>],
+    proposed: &ProposedAmounts,
+    start_states: &[ItemState],
     worth: u64,
-    is_open: bool,
+    needs_round: bool,
     marks: &mut [bool],
     q: TxnId,
 ) -> Result<Option<Least>, AllocError>
     requires index { IsWholeIndexOf history.now.schedule.entries index.now }
     requires query { is_committed_query history.now.schedule q.0 ≡ true }
-    requires items { length lists.now ≡ length history.now.schedule.opening }
-    requires read { AreRead lists.now }
-    requires lists { (x : ℕ) → x < length history.now.schedule.opening → list_at lists.now x
+    requires list_per_item { length values_read.now ≡ length history.now.schedule.opening }
+    requires reads_in_range { AreReadsInRange values_read.now }
+    requires values_read { (x : ℕ) → x < length history.now.schedule.opening → list_at values_read.now x
         ≡ values_of (accesses_in history.now.schedule.entries q.0) x }
     requires updates { map (λ t. t.0) updates.now ≡ updates_committed_before history.now.schedule q.0 }
-    requires first { length (must history.now.schedule q.0) ≤ from }
+    requires mandatory_within { length (must history.now.schedule q.0) ≤ from }
     requires from { from ≤ length updates.now }
     requires marks { length marks.old ≡ length updates.now }
-    requires musts { AreFirst from marks.old }
-    requires begin { (ms : List Bool) → AreFirst from ms
-        → AreStates (raised (M.distance_by history.now.schedule.weights) lists.now) history.now.schedule q.0 from ms
-        begin.now }
-    requires shown { AreShown (length history.now.schedule.opening)
-        (raised (M.distance_by history.now.schedule.weights) lists.now) history.now.schedule q.0 worth marks.old }
+    requires prefix_marked { IsPrefixMarked from marks.old }
+    requires start_states { (ms : List Bool) → IsPrefixMarked from ms
+        → AreStates (raised (M.distance_by history.now.schedule.weights) values_read.now) history.now.schedule q.0 from ms
+        start_states.now }
+    requires forced_and_closed { AreForcedAndClosed (length history.now.schedule.opening)
+        (raised (M.distance_by history.now.schedule.weights) values_read.now) history.now.schedule q.0 worth marks.old }
     ensures { IfOk result (λ found. IfSome found (λ l. IsLeast M.distance_by history.now.schedule q.0 l.distance
         (map (λ t. t.0) l.before.items))) }
 {
     let is_shown = mark_least(
-        alloc, history, index, updates, from, lists, drafted, begin, worth, is_open, marks, q,
+        alloc,
+        history,
+        index,
+        updates,
+        from,
+        values_read,
+        proposed,
+        start_states,
+        worth,
+        needs_round,
+        marks,
+        q,
     )?;
     if !is_shown {
         return Ok(None);
     }
     least_from(
-        alloc, history, index, updates, from, lists, begin, worth, marks, q,
+        alloc,
+        history,
+        index,
+        updates,
+        from,
+        values_read,
+        start_states,
+        worth,
+        marks,
+        q,
     )
 }
 
@@ -232,9 +255,14 @@ fn has_ended<M: Metric>(history: &History<M>, t: TxnId, place: u64) -> bool {
     }
 }
 
-/// Returns a position that is `MARGIN` before the first update that ended after the query began, at least `first`. Usually all
+/// Returns the position that is `MARGIN` before the last update that ended before the query began, at least `first`. Usually all
 /// updates before it are in the smallest set.
-fn middle_of<M: Metric>(history: &History<M>, updates: &[TxnId], first: usize, q: TxnId) -> usize
+fn checkpoint_of<M: Metric>(
+    history: &History<M>,
+    updates: &[TxnId],
+    first: usize,
+    q: TxnId,
+) -> usize
     requires first { first ≤ length updates.now }
     ensures low { first ≤ result }
     ensures high { result ≤ length updates.now }
@@ -256,125 +284,188 @@ fn find_again<M: Metric>(
     index: &Index,
     updates: &[TxnId],
     first: usize,
-    lists: &[Vec<i64>],
-    drafted: &Draft,
-    begin: &[ItemState],
+    values_read: &[Vec<i64>],
+    proposed: &ProposedAmounts,
+    start_states: &[ItemState],
     worth: u64,
-    is_open: bool,
+    needs_round: bool,
     marks: &mut [bool],
     q: TxnId,
 ) -> Result<Option<Least>, AllocError>
     requires index { IsWholeIndexOf history.now.schedule.entries index.now }
     requires query { is_committed_query history.now.schedule q.0 ≡ true }
-    requires items { length lists.now ≡ length history.now.schedule.opening }
-    requires read { AreRead lists.now }
-    requires lists { (x : ℕ) → x < length history.now.schedule.opening → list_at lists.now x
+    requires list_per_item { length values_read.now ≡ length history.now.schedule.opening }
+    requires reads_in_range { AreReadsInRange values_read.now }
+    requires values_read { (x : ℕ) → x < length history.now.schedule.opening → list_at values_read.now x
         ≡ values_of (accesses_in history.now.schedule.entries q.0) x }
     requires updates { map (λ t. t.0) updates.now ≡ updates_committed_before history.now.schedule q.0 }
-    requires first { length (must history.now.schedule q.0) ≤ first }
+    requires mandatory_within { length (must history.now.schedule q.0) ≤ first }
     requires within { first ≤ length updates.now }
     requires marks { length marks.old ≡ length updates.now }
-    requires musts { AreFirst first marks.old }
-    requires begin { (ms : List Bool) → AreFirst first ms
-        → AreStates (raised (M.distance_by history.now.schedule.weights) lists.now) history.now.schedule q.0 first ms
-        begin.now }
-    requires worth { worth ≡ amounts_sum begin.now }
-    requires shown { AreShown (length history.now.schedule.opening)
-        (raised (M.distance_by history.now.schedule.weights) lists.now) history.now.schedule q.0 worth marks.old }
+    requires prefix_marked { IsPrefixMarked first marks.old }
+    requires start_states { (ms : List Bool) → IsPrefixMarked first ms
+        → AreStates (raised (M.distance_by history.now.schedule.weights) values_read.now) history.now.schedule q.0 first ms
+        start_states.now }
+    requires worth { worth ≡ amounts_sum start_states.now }
+    requires forced_and_closed { AreForcedAndClosed (length history.now.schedule.opening)
+        (raised (M.distance_by history.now.schedule.weights) values_read.now) history.now.schedule q.0 worth marks.old }
     ensures { IfOk result (λ found. IfSome found (λ l. IsLeast M.distance_by history.now.schedule q.0 l.distance
         (map (λ t. t.0) l.before.items))) }
 {
-    if !is_open {
+    if !needs_round {
         return find_from(
-            alloc, history, index, updates, first, lists, drafted, begin, worth, false, marks, q,
+            alloc,
+            history,
+            index,
+            updates,
+            first,
+            values_read,
+            proposed,
+            start_states,
+            worth,
+            false,
+            marks,
+            q,
         );
     }
-    let middle = count_first(marks, first);
+    let checkpoint = marked_prefix_len(marks, first);
     let found = round(
-        alloc, history, index, updates, first, middle, lists, drafted, begin, marks, q,
+        alloc,
+        history,
+        index,
+        updates,
+        first,
+        checkpoint,
+        values_read,
+        proposed,
+        start_states,
+        marks,
+        q,
     )?;
     let Some(end) = found else {
         return Ok(None);
     };
     let RoundEnd {
         has_added,
-        middle: states,
+        checkpoint_states: states,
     } = end;
     find_from(
-        alloc, history, index, updates, middle, lists, drafted, &states, worth, has_added, marks, q,
+        alloc,
+        history,
+        index,
+        updates,
+        checkpoint,
+        values_read,
+        proposed,
+        &states,
+        worth,
+        has_added,
+        marks,
+        q,
     )
 }
 
-/// Returns the least distance of a query from the states after the updates that it must see, if the amounts show it. Later
-/// rounds start in the middle if all updates before it are marked.
-fn find_drafted<M: Metric>(
+/// Starts from the states after the mandatory updates. Returns the least distance of the query, if the amounts prove it. Later
+/// rounds start at the checkpoint if all updates before it are marked.
+fn find_with_amounts<M: Metric>(
     alloc: Global,
     history: &History<M>,
     index: &Index,
     updates: &[TxnId],
     first: usize,
-    lists: &[Vec<i64>],
-    drafted: &Draft,
-    begin: &[ItemState],
+    values_read: &[Vec<i64>],
+    proposed: &ProposedAmounts,
+    start_states: &[ItemState],
     marks: &mut [bool],
     q: TxnId,
 ) -> Result<Option<Least>, AllocError>
     requires index { IsWholeIndexOf history.now.schedule.entries index.now }
     requires query { is_committed_query history.now.schedule q.0 ≡ true }
-    requires items { length lists.now ≡ length history.now.schedule.opening }
-    requires read { AreRead lists.now }
-    requires lists { (x : ℕ) → x < length history.now.schedule.opening → list_at lists.now x
+    requires list_per_item { length values_read.now ≡ length history.now.schedule.opening }
+    requires reads_in_range { AreReadsInRange values_read.now }
+    requires values_read { (x : ℕ) → x < length history.now.schedule.opening → list_at values_read.now x
         ≡ values_of (accesses_in history.now.schedule.entries q.0) x }
     requires updates { map (λ t. t.0) updates.now ≡ updates_committed_before history.now.schedule q.0 }
     requires first { first ≡ length (must history.now.schedule q.0) }
     requires marks { length marks.old ≡ length updates.now }
-    requires musts { AreFirst first marks.old }
+    requires prefix_marked { IsPrefixMarked first marks.old }
     requires only { (i : ℕ) → i < length marks.old → mark_at marks.old i ≡ nat_lt i first }
-    requires begin { (ms : List Bool) → AreFirst first ms
-        → AreStates (raised (M.distance_by history.now.schedule.weights) lists.now) history.now.schedule q.0 first ms
-        begin.now }
+    requires start_states { (ms : List Bool) → IsPrefixMarked first ms
+        → AreStates (raised (M.distance_by history.now.schedule.weights) values_read.now) history.now.schedule q.0 first ms
+        start_states.now }
     ensures { IfOk result (λ found. IfSome found (λ l. IsLeast M.distance_by history.now.schedule q.0 l.distance
         (map (λ t. t.0) l.before.items))) }
 {
     let _invariant = history.log(); // brings the invariant into the proof
-    let Some(worth) = sum_of(begin) else {
+    let Some(worth) = sum_of(start_states) else {
         return Ok(None);
     };
-    let middle = middle_of(history, updates, first, q);
+    let checkpoint = checkpoint_of(history, updates, first, q);
     let found = round(
-        alloc, history, index, updates, first, middle, lists, drafted, begin, marks, q,
+        alloc,
+        history,
+        index,
+        updates,
+        first,
+        checkpoint,
+        values_read,
+        proposed,
+        start_states,
+        marks,
+        q,
     )?;
     let Some(end) = found else {
         return Ok(None);
     };
     let RoundEnd {
         has_added,
-        middle: states,
+        checkpoint_states: states,
     } = end;
-    if are_first(marks, middle) {
+    if is_prefix_marked(marks, checkpoint) {
         return find_from(
-            alloc, history, index, updates, middle, lists, drafted, &states, worth, has_added,
-            marks, q,
+            alloc,
+            history,
+            index,
+            updates,
+            checkpoint,
+            values_read,
+            proposed,
+            &states,
+            worth,
+            has_added,
+            marks,
+            q,
         );
     }
     find_again(
-        alloc, history, index, updates, first, lists, drafted, begin, worth, has_added, marks, q,
+        alloc,
+        history,
+        index,
+        updates,
+        first,
+        values_read,
+        proposed,
+        start_states,
+        worth,
+        has_added,
+        marks,
+        q,
     )
 }
 
-/// Returns the least distance of a committed query, if the amounts of the draft show it.
+/// Returns the least distance of a committed query, if the proposed amounts prove it.
 fn find<M: Metric>(
     alloc: Global,
     history: &History<M>,
     index: &Index,
     updates: &[TxnId],
-    lists: &[Vec<i64>],
+    values_read: &[Vec<i64>],
     q: TxnId,
 ) -> Result<Option<Least>, AllocError>
     requires index { IsWholeIndexOf history.now.schedule.entries index.now }
     requires query { is_committed_query history.now.schedule q.0 ≡ true }
-    requires items { length lists.now ≡ length history.now.schedule.opening }
-    requires lists { (x : ℕ) → x < length history.now.schedule.opening → list_at lists.now x
+    requires list_per_item { length values_read.now ≡ length history.now.schedule.opening }
+    requires values_read { (x : ℕ) → x < length history.now.schedule.opening → list_at values_read.now x
         ≡ values_of (accesses_in history.now.schedule.entries q.0) x }
     requires updates { map (λ t. t.0) updates.now ≡ updates_committed_before history.now.schedule q.0 }
     ensures { IfOk result (λ found. IfSome found (λ l. IsLeast M.distance_by history.now.schedule q.0 l.distance
@@ -382,19 +473,37 @@ fn find<M: Metric>(
 {
     let _invariant = history.log(); // brings the invariant into the proof
     let first = count_must(alloc, history, updates, q)?;
-    let drafted = draft(alloc, history, index, updates, first, lists)?;
-    let begun = start(alloc, history, index, updates, first, lists, &drafted, q)?;
-    let Some(begin) = begun else {
+    let proposed = propose_amounts(alloc, history, index, updates, first, values_read)?;
+    let begun = start(
+        alloc,
+        history,
+        index,
+        updates,
+        first,
+        values_read,
+        &proposed,
+        q,
+    )?;
+    let Some(start_states) = begun else {
         return Ok(None);
     };
     let mut marks = first_marks(alloc, updates.len(), first)?;
-    find_drafted(
-        alloc, history, index, updates, first, lists, &drafted, &begin, &mut marks, q,
+    find_with_amounts(
+        alloc,
+        history,
+        index,
+        updates,
+        first,
+        values_read,
+        &proposed,
+        &start_states,
+        &mut marks,
+        q,
     )
 }
 
 /// Returns the least distance of a query and its smallest set, or `None` if the transaction is not a committed query or the
-/// amounts of the draft do not show them.
+/// proposed amounts do not prove them.
 ///
 /// # Errors
 ///
@@ -416,6 +525,6 @@ pub fn least_of<M: Metric>(
     let updates = updates_before(alloc, history, index.commits(), q)?;
     let mut list = Vec::new(alloc);
     let reads = index.accesses_of(history, q, &mut list)?;
-    let lists = values_by_item(alloc, reads, history.items())?;
-    find(alloc, history, index, &updates, &lists, q)
+    let values_read = values_by_item(alloc, reads, history.items())?;
+    find(alloc, history, index, &updates, &values_read, q)
 }

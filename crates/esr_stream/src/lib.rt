@@ -1,29 +1,29 @@
 //! Audits by streaming: computes the least distance of a query, and the smallest closed set of updates whose cost is this
 //! distance, in passes over the updates in commit order.
 //!
-//! The method builds neither a closure problem nor a flow network. First, `draft` proposes an amount for each version of an
-//! item. No contract constrains these amounts. They are not the draft flow of `esr_flow`. Then a *pass* (`pass`) caps each
-//! amount at the cost of its version. Every closed set contains the *mandatory* updates: of a strict query, the updates that
-//! committed before it began; of any other query, none.
+//! The method builds neither a closure problem nor a flow network. First, `propose_amounts` (`search`) proposes an amount for
+//! each version of an item. No contract constrains these amounts. Then a *pass*
+//! (`pass`) caps each amount at the cost of its version. Every closed set contains the *mandatory* updates: of a strict query,
+//! the updates that committed before it began; of any other query, none.
 //!
 //! A pass applies the updates in commit order and keeps the sum of the capped amounts of the current versions. Let S be this
 //! sum directly after the mandatory updates. If a later update decreases the sum, the pass fails. Otherwise every closed set
-//! costs at least S (`esr_bound`). The pass also marks updates that every closed set of cost S contains, and `close` adds
-//! their predecessors. If `close` adds an update, another pass follows. It keeps all marks, and it need not visit all updates
-//! again: if all updates before a position are marked, every closed set of cost S contains them, as if they were mandatory. So
-//! the pass starts from the states at that position, provided that their amounts sum to at least S. After 34 passes
-//! (`MAX_ROUNDS` and the first two) the search ends without a result. When `close` adds none and the cost of the marked set
-//! equals S, the marked set is the result. In each other case `least_of` returns `None`, and the caller solves the closure
-//! problem of the query (`esr_audit`).
+//! costs at least S (`esr_bound`). The pass also marks updates that every closed set of cost S contains, and `close` adds their
+//! predecessors. If `close` adds an update, another pass follows. It keeps all marks, and it need not visit all updates again:
+//! if all updates before a position are marked, every closed set of cost S contains them, as if they were mandatory. So the
+//! pass starts from the states at that position, provided that their amounts sum to at least S. After 34 passes (`MAX_ROUNDS`
+//! and the first two) the search ends without a result. When `close` adds none and the cost of the marked set equals S, the
+//! marked set is the result. In each other case `least_of` returns `None`, and the caller solves the closure problem of the
+//! query (`esr_audit`).
 //!
-//! The proof covers the pass and not the proposed amounts, so `draft` can change without a new theorem. Costs are never
+//! The proof covers the pass and not the proposed amounts, so the proposal can change without a new theorem. Costs are never
 //! negative, but amounts can be. So costs and amounts are stored as unsigned integers with `OFFSET` added. Rejected design: a
 //! flow whose arcs are numbered by the entries of the history. Its check needs the arcs of the network, and tests flow
 //! conservation at each update.
 #![tactic(auto)]
 
+mod amounts;
 mod closing;
-mod draft;
 mod items;
 mod least;
 mod pass;

@@ -1,13 +1,14 @@
-//! Rounds: passes over the updates that mark what each set of least cost contains, until the marked set is closed.
+//! Rounds. A round makes a pass, which marks updates that every closed set of least cost contains, and then marks the
+//! predecessors of marked updates. So the marked set is closed after each round. The rounds end when one adds no predecessor.
 ghost use Rattle.std.specs.Prelude.{◌≡◌, ◌≤◌, ◌<◌, ℕ, Bool, List, IfOk, IfSome, length, map, nat_lt, true};
 ghost use Rattle.esr_history.specs.Queries.{must, updates_committed_before};
 ghost use Rattle.esr_order.specs.Index.{IsWholeIndexOf};
 ghost use Rattle.esr_bound.specs.Amounts.{AreForced, mark_at};
-ghost use Rattle.esr_stream.specs.Passes.{AreFirst, AreShown, AreStates, IsPassed, StayMarked, amounts_sum};
-ghost use Rattle.esr_stream.specs.Reads.{AreRead, raised};
+ghost use Rattle.esr_stream.specs.Passes.{IsPrefixMarked, AreForcedAndClosed, AreStates, IsPassInvariant, StayMarked, amounts_sum};
+ghost use Rattle.esr_stream.specs.Reads.{AreReadsInRange, raised};
 
+use crate::amounts::ProposedAmounts;
 use crate::closing::{close, is_marked};
-use crate::draft::Draft;
 use crate::items::{ItemState, covered_copy, sum_of};
 use crate::pass::pass;
 use esr_history::{History, TxnId};
@@ -15,21 +16,21 @@ use esr_items::Metric;
 use esr_order::Index;
 use std::alloc::{AllocError, Global};
 
-/// The maximum number of rounds from the middle on.
+/// The maximum number of rounds in `mark_least`.
 const MAX_ROUNDS: usize = 32;
 
-/// Returns `count` marks, of which the first `first` are set.
+/// Returns `count` marks, of which the first `set_count` are set.
 ///
 /// # Errors
 ///
 /// An allocation failed.
-pub fn first_marks(alloc: Global, count: usize, first: usize) -> Result<Vec<bool>, AllocError>
+pub fn first_marks(alloc: Global, count: usize, set_count: usize) -> Result<Vec<bool>, AllocError>
     ensures len { IfOk result (λ marks. length marks.items ≡ count) }
-    ensures marks { IfOk result (λ marks. (i : ℕ) → i < count → mark_at marks.items i ≡ nat_lt i first) }
+    ensures marks { IfOk result (λ marks. (i : ℕ) → i < count → mark_at marks.items i ≡ nat_lt i set_count) }
 {
     let mut marks = Vec::with_capacity(alloc, count)?;
     for i in 0..count {
-        marks.push(i < first)?;
+        marks.push(i < set_count)?;
     }
     Ok(marks)
 }
@@ -50,61 +51,81 @@ pub fn copy_of(alloc: Global, states: &[ItemState]) -> Result<Vec<ItemState>, Al
 /// The result of a round.
 #[derive(Drop)]
 pub struct RoundEnd {
-    /// Whether a predecessor of a marked update was marked.
+    /// Whether the round marked a predecessor that was not marked before.
     pub has_added: bool,
-    /// The states at the middle, if all updates before it are marked.
-    pub middle: Vec<ItemState>,
+    /// The states at the checkpoint. They are valid only if all updates before it are marked.
+    pub checkpoint_states: Vec<ItemState>,
 }
 
-/// Makes one pass over the updates from a position on. Returns the states at the middle, if all updates before it are marked,
-/// or `None` if an update decreases the sum of the amounts.
-fn pass_through<M: Metric>(
+/// Makes one pass over the updates from a position on. Returns the states at the checkpoint, where later rounds can start, or
+/// `None` if an update decreases the sum of the amounts.
+fn pass_with_checkpoint<M: Metric>(
     alloc: Global,
     history: &History<M>,
     index: &Index,
     updates: &[TxnId],
     from: usize,
-    middle: usize,
-    lists: &[Vec<i64>],
-    drafted: &Draft,
+    checkpoint: usize,
+    values_read: &[Vec<i64>],
+    proposed: &ProposedAmounts,
     states: &mut [ItemState],
     marks: &mut [bool],
     q: TxnId,
 ) -> Result<Option<Vec<ItemState>>, AllocError>
     requires index { IsWholeIndexOf history.now.schedule.entries index.now }
-    requires items { length lists.now ≡ length history.now.schedule.opening }
-    requires read { AreRead lists.now }
+    requires list_per_item { length values_read.now ≡ length history.now.schedule.opening }
+    requires reads_in_range { AreReadsInRange values_read.now }
     requires updates { map (λ t. t.0) updates.now ≡ updates_committed_before history.now.schedule q.0 }
-    requires low { from ≤ middle }
-    requires high { middle ≤ length updates.now }
+    requires from_le_checkpoint { from ≤ checkpoint }
+    requires checkpoint_le_len { checkpoint ≤ length updates.now }
     requires states { length states.old ≡ length history.now.schedule.opening }
     requires marks { length marks.old ≡ length updates.now }
     ensures len { length marks.new ≡ length marks.old }
     ensures stay { StayMarked marks.old marks.new }
-    ensures passed { IfOk result (λ found. IfSome found (λ _. (worth : ℕ) (seeds : List Bool)
-        → IsPassed (length history.now.schedule.opening) (raised (M.distance_by history.now.schedule.weights) lists.now)
+    ensures pass_invariant { IfOk result (λ found. IfSome found (λ _. (worth : ℕ) (seeds : List Bool)
+        → IsPassInvariant (length history.now.schedule.opening) (raised (M.distance_by history.now.schedule.weights) values_read.now)
         history.now.schedule q.0 worth from seeds marks.old states.old
-        → IsPassed (length history.now.schedule.opening) (raised (M.distance_by history.now.schedule.weights) lists.now)
+        → IsPassInvariant (length history.now.schedule.opening) (raised (M.distance_by history.now.schedule.weights) values_read.now)
         history.now.schedule q.0 worth (length updates.now) seeds marks.new states.new)) }
-    ensures middle { IfOk result (λ found. IfSome found (λ kept. (worth : ℕ) (seeds ms : List Bool)
-        → IsPassed (length history.now.schedule.opening) (raised (M.distance_by history.now.schedule.weights) lists.now)
+    ensures checkpoint { IfOk result (λ found. IfSome found (λ kept. (worth : ℕ) (seeds ms : List Bool)
+        → IsPassInvariant (length history.now.schedule.opening) (raised (M.distance_by history.now.schedule.weights) values_read.now)
         history.now.schedule q.0 worth from seeds marks.old states.old
-        → AreFirst middle ms
-        → AreStates (raised (M.distance_by history.now.schedule.weights) lists.now) history.now.schedule q.0 middle ms
+        → IsPrefixMarked checkpoint ms
+        → AreStates (raised (M.distance_by history.now.schedule.weights) values_read.now) history.now.schedule q.0 checkpoint ms
         kept.items)) }
 {
-    let low = pass(
-        alloc, history, index, updates, from, middle, lists, drafted, states, marks, q,
+    let has_passed_first = pass(
+        alloc,
+        history,
+        index,
+        updates,
+        from,
+        checkpoint,
+        values_read,
+        proposed,
+        states,
+        marks,
+        q,
     )?;
-    if !low {
+    if !has_passed_first {
         return Ok(None);
     }
     let kept = covered_copy(alloc, states)?;
     let count = updates.len();
-    let high = pass(
-        alloc, history, index, updates, middle, count, lists, drafted, states, marks, q,
+    let has_passed_second = pass(
+        alloc,
+        history,
+        index,
+        updates,
+        checkpoint,
+        count,
+        values_read,
+        proposed,
+        states,
+        marks,
+        q,
     )?;
-    if !high {
+    if !has_passed_second {
         return Ok(None);
     }
     Ok(Some(kept))
@@ -122,47 +143,47 @@ pub fn round<M: Metric>(
     index: &Index,
     updates: &[TxnId],
     from: usize,
-    middle: usize,
-    lists: &[Vec<i64>],
-    drafted: &Draft,
-    begin: &[ItemState],
+    checkpoint: usize,
+    values_read: &[Vec<i64>],
+    proposed: &ProposedAmounts,
+    start_states: &[ItemState],
     marks: &mut [bool],
     q: TxnId,
 ) -> Result<Option<RoundEnd>, AllocError>
     requires index { IsWholeIndexOf history.now.schedule.entries index.now }
-    requires items { length lists.now ≡ length history.now.schedule.opening }
-    requires read { AreRead lists.now }
+    requires list_per_item { length values_read.now ≡ length history.now.schedule.opening }
+    requires reads_in_range { AreReadsInRange values_read.now }
     requires updates { map (λ t. t.0) updates.now ≡ updates_committed_before history.now.schedule q.0 }
-    requires first { length (must history.now.schedule q.0) ≤ from }
-    requires low { from ≤ middle }
-    requires high { middle ≤ length updates.now }
+    requires mandatory_within { length (must history.now.schedule q.0) ≤ from }
+    requires from_le_checkpoint { from ≤ checkpoint }
+    requires checkpoint_le_len { checkpoint ≤ length updates.now }
     requires marks { length marks.old ≡ length updates.now }
-    requires musts { AreFirst from marks.old }
-    requires begin { (ms : List Bool) → AreFirst from ms
-        → AreStates (raised (M.distance_by history.now.schedule.weights) lists.now) history.now.schedule q.0 from ms
-        begin.now }
+    requires prefix_marked { IsPrefixMarked from marks.old }
+    requires start_states { (ms : List Bool) → IsPrefixMarked from ms
+        → AreStates (raised (M.distance_by history.now.schedule.weights) values_read.now) history.now.schedule q.0 from ms
+        start_states.now }
     ensures len { length marks.new ≡ length marks.old }
     ensures stay { StayMarked marks.old marks.new }
-    ensures shown { IfOk result (λ found. IfSome found (λ _. (worth : ℕ) → worth ≤ amounts_sum begin.now
-        → AreForced (length history.now.schedule.opening) (raised (M.distance_by history.now.schedule.weights) lists.now)
+    ensures forced_and_closed { IfOk result (λ found. IfSome found (λ _. (worth : ℕ) → worth ≤ amounts_sum start_states.now
+        → AreForced (length history.now.schedule.opening) (raised (M.distance_by history.now.schedule.weights) values_read.now)
         history.now.schedule q.0 worth marks.old
-        → AreShown (length history.now.schedule.opening) (raised (M.distance_by history.now.schedule.weights) lists.now)
+        → AreForcedAndClosed (length history.now.schedule.opening) (raised (M.distance_by history.now.schedule.weights) values_read.now)
         history.now.schedule q.0 worth marks.new)) }
-    ensures middle { IfOk result (λ found. IfSome found (λ end. (ms : List Bool) → AreFirst middle ms
-        → AreStates (raised (M.distance_by history.now.schedule.weights) lists.now) history.now.schedule q.0 middle ms
-        end.middle.items)) }
+    ensures checkpoint { IfOk result (λ found. IfSome found (λ end. (ms : List Bool) → IsPrefixMarked checkpoint ms
+        → AreStates (raised (M.distance_by history.now.schedule.weights) values_read.now) history.now.schedule q.0 checkpoint ms
+        end.checkpoint_states.items)) }
 {
     let _invariant = history.log(); // brings the invariant into the proof
-    let mut states = copy_of(alloc, begin)?;
-    let found = pass_through(
+    let mut states = copy_of(alloc, start_states)?;
+    let found = pass_with_checkpoint(
         alloc,
         history,
         index,
         updates,
         from,
-        middle,
-        lists,
-        drafted,
+        checkpoint,
+        values_read,
+        proposed,
         &mut states,
         marks,
         q,
@@ -173,11 +194,12 @@ pub fn round<M: Metric>(
     let has_added = close(alloc, history, index, updates, from, marks, q)?;
     Ok(Some(RoundEnd {
         has_added,
-        middle: kept,
+        checkpoint_states: kept,
     }))
 }
 
-/// Marks the smallest set of least cost, if the amounts show it. Returns whether the marks are shown.
+/// Makes rounds until one adds no predecessor. If it returns `true`, the marked set is closed, every closed set of cost `worth`
+/// contains it, and no closed set costs less. The caller tests whether it costs `worth`.
 ///
 /// # Errors
 ///
@@ -188,63 +210,73 @@ pub fn mark_least<M: Metric>(
     index: &Index,
     updates: &[TxnId],
     from: usize,
-    lists: &[Vec<i64>],
-    drafted: &Draft,
-    begin: &[ItemState],
+    values_read: &[Vec<i64>],
+    proposed: &ProposedAmounts,
+    start_states: &[ItemState],
     worth: u64,
-    is_open: bool,
+    needs_round: bool,
     marks: &mut [bool],
     q: TxnId,
 ) -> Result<bool, AllocError>
     requires index { IsWholeIndexOf history.now.schedule.entries index.now }
-    requires items { length lists.now ≡ length history.now.schedule.opening }
-    requires read { AreRead lists.now }
+    requires list_per_item { length values_read.now ≡ length history.now.schedule.opening }
+    requires reads_in_range { AreReadsInRange values_read.now }
     requires updates { map (λ t. t.0) updates.now ≡ updates_committed_before history.now.schedule q.0 }
-    requires first { length (must history.now.schedule q.0) ≤ from }
+    requires mandatory_within { length (must history.now.schedule q.0) ≤ from }
     requires from { from ≤ length updates.now }
     requires marks { length marks.old ≡ length updates.now }
-    requires musts { AreFirst from marks.old }
-    requires begin { (ms : List Bool) → AreFirst from ms
-        → AreStates (raised (M.distance_by history.now.schedule.weights) lists.now) history.now.schedule q.0 from ms
-        begin.now }
-    requires shown { AreShown (length history.now.schedule.opening)
-        (raised (M.distance_by history.now.schedule.weights) lists.now) history.now.schedule q.0 worth marks.old }
+    requires prefix_marked { IsPrefixMarked from marks.old }
+    requires start_states { (ms : List Bool) → IsPrefixMarked from ms
+        → AreStates (raised (M.distance_by history.now.schedule.weights) values_read.now) history.now.schedule q.0 from ms
+        start_states.now }
+    requires forced_and_closed { AreForcedAndClosed (length history.now.schedule.opening)
+        (raised (M.distance_by history.now.schedule.weights) values_read.now) history.now.schedule q.0 worth marks.old }
     ensures len { length marks.new ≡ length marks.old }
-    ensures musts { AreFirst from marks.new }
-    ensures shown { IfOk result (λ is. is ≡ true
-        → AreShown (length history.now.schedule.opening) (raised (M.distance_by history.now.schedule.weights) lists.now)
+    ensures prefix_marked { IsPrefixMarked from marks.new }
+    ensures forced_and_closed { IfOk result (λ is. is ≡ true
+        → AreForcedAndClosed (length history.now.schedule.opening) (raised (M.distance_by history.now.schedule.weights) values_read.now)
         history.now.schedule q.0 worth marks.new) }
 {
     let _invariant = history.log(); // brings the invariant into the proof
-    let mut is_open = is_open;
-    let Some(sum) = sum_of(begin) else {
+    let mut needs_round = needs_round;
+    let Some(sum) = sum_of(start_states) else {
         return Ok(false);
     };
     if sum < worth {
         return Ok(false);
     }
     for _round in 0..MAX_ROUNDS {
-        if !is_open {
+        if !needs_round {
             return Ok(true);
         }
         let found = round(
-            alloc, history, index, updates, from, from, lists, drafted, begin, marks, q,
+            alloc,
+            history,
+            index,
+            updates,
+            from,
+            from,
+            values_read,
+            proposed,
+            start_states,
+            marks,
+            q,
         )?;
         let Some(end) = found else {
             return Ok(false);
         };
-        is_open = end.has_added;
+        needs_round = end.has_added;
     }
-    Ok(false)
+    Ok(!needs_round)
 }
 
-/// Returns how many of the first updates are marked, at least `first`.
-pub fn count_first(marks: &[bool], first: usize) -> usize
+/// Returns the length of the longest marked prefix, if the first `first` updates are marked.
+pub fn marked_prefix_len(marks: &[bool], first: usize) -> usize
     requires within { first ≤ length marks.now }
-    requires first { AreFirst first marks.now }
+    requires prefix_marked { IsPrefixMarked first marks.now }
     ensures low { first ≤ result }
     ensures high { result ≤ length marks.now }
-    ensures first { AreFirst result marks.now }
+    ensures prefix_marked { IsPrefixMarked result marks.now }
 {
     for i in first..marks.len() {
         if !is_marked(marks, i) {
@@ -254,9 +286,9 @@ pub fn count_first(marks: &[bool], first: usize) -> usize
     marks.len()
 }
 
-/// Returns whether the first updates are marked.
-pub fn are_first(marks: &[bool], count: usize) -> bool
-    ensures { result ≡ true → AreFirst count marks.now }
+/// Returns whether the first `count` updates are all marked.
+pub fn is_prefix_marked(marks: &[bool], count: usize) -> bool
+    ensures { result ≡ true → IsPrefixMarked count marks.now }
 {
     for i in 0..count {
         if !is_marked(marks, i) {

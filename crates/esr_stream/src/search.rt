@@ -1,149 +1,162 @@
-//! Sweeps back along the updates, and searches for versions of earlier updates for the rest of an update's amount.
+//! Sweeps over the updates in reverse order. If an update has an excess, searches for earlier versions that can take it.
 ghost use Rattle.std.specs.Prelude.{◌≡◌, ◌<◌, All, length};
 ghost use Rattle.esr_items.specs.Values.{IsValue};
 ghost use Rattle.esr_order.specs.Index.{IsWholeIndexOf};
-ghost use Rattle.esr_stream.specs.Reads.{AreRead};
+ghost use Rattle.esr_stream.specs.Reads.{AreReadsInRange};
 
-use crate::draft::{Draft, NOBODY, NONE, position};
+use crate::amounts::{NOBODY, NONE, ProposedAmounts, to_u16_or_nobody};
 use crate::reads::raised_cost;
 use esr_history::{History, TxnId};
 use esr_items::{ItemId, Metric};
 use esr_order::{Access, Index};
 use std::alloc::{AllocError, Global};
 
-/// The number of accesses that all searches visit together, for each update of the query.
-const MAX_LOOKS: u64 = 400;
+/// The number of accesses after which no further search starts, divided by the number of updates.
+const MAX_VISITS_PER_UPDATE: u64 = 400;
 
-/// The round of an update from which no search can succeed.
+/// The search number of an update from which no search can succeed.
 const DEAD: u32 = u32::MAX;
 
-/// How a search reached an update: a version that it overwrites gets less, or a version that it leaves gets more.
+/// A residual arc into an update, in the reversed network (`amounts`), with the id of a version: the amount of a version that the
+/// update overwrites can decrease, or the amount of a version that it writes can increase.
 #[derive(Clone, Copy, PartialEq, Eq)]
-enum Way {
-    Less(u32),
-    More(u32),
+enum ResidualArc {
+    Decrease(u32),
+    Increase(u32),
 }
 
-/// The state of a search at an update.
+/// An update that a breadth-first search has reached.
 #[derive(Clone, Copy)]
-struct Sight {
-    round: u32,
-    way: Way,
-    /// The update from which the search reached it.
-    from: u16,
+struct Reached {
+    update: u16,
+    /// The index in the queue of the update from which the search reached it.
+    predecessor: u16,
+    /// The arc by which the search reached it.
+    arc: ResidualArc,
 }
 
-/// An item whose version of an earlier update can take more, and the update that overwrites this version.
+/// The end of an augmenting path: an item whose current version has residual capacity, and the index in the queue of the update
+/// that overwrites this version.
 #[derive(Clone, Copy)]
 struct Target {
     item: ItemId,
-    node: u16,
+    overwriter: u16,
 }
 
+/// The state of the searches, which share their memory. Only the updates that the current search has reached have a label (their
+/// element of the queue); each of the others takes four bytes.
 #[derive(Drop)]
-struct Searches {
-    looks: u64,
-    round: u32,
-    seen: Vec<u16>,
-    sights: Vec<Sight>,
+struct SearchState {
+    /// How many more accesses the searches may visit.
+    visits_left: u64,
+    /// The number of the current search.
+    search_number: u32,
+    /// The updates that the current search has reached. The first one is the source.
+    queue: Vec<Reached>,
+    /// The index in the queue of the next update to expand.
+    head: u16,
+    /// For each update, the number of the last search that reached it, or `DEAD`.
+    last_search: Vec<u32>,
 }
 
-/// Returns the cost of the version that an access of a row leaves, plus the offset.
-fn cost_in<M: Metric>(metric: &M, lists: &[Vec<i64>], row: &[Access], j: usize) -> u64
-    requires read { AreRead lists.now }
-    requires row { All (λ a. a.item.0 < length lists.now) row.now }
-    requires values { All (λ a. IsValue a.value) row.now }
+/// Returns the cost of the version that the `j`-th of these accesses writes, plus the offset, or 0 past the end.
+fn cost_in<M: Metric>(metric: &M, values_read: &[Vec<i64>], accesses: &[Access], j: usize) -> u64
+    requires reads_in_range { AreReadsInRange values_read.now }
+    requires accesses { All (λ a. a.item.0 < length values_read.now) accesses.now }
+    requires values { All (λ a. IsValue a.value) accesses.now }
 {
-    if j < row.len() {
-        raised_cost(metric, lists, row[j].item, row[j].value)
+    if j < accesses.len() {
+        raised_cost(metric, values_read, accesses[j].item, accesses[j].value)
     } else {
         0
     }
 }
 
-/// Returns the cost of a version that an update leaves, plus the offset.
+/// Returns the cost of a version that an update writes, plus the offset, or 0 of an opening value.
 fn cost_of<M: Metric>(
     history: &History<M>,
     index: &Index,
     updates: &[TxnId],
-    lists: &[Vec<i64>],
-    draft: &Draft,
+    values_read: &[Vec<i64>],
+    amounts: &ProposedAmounts,
     id: u32,
-    list: &mut Vec<Access>,
+    buffer: &mut Vec<Access>,
 ) -> Result<u64, AllocError>
     requires index { IsWholeIndexOf history.now.schedule.entries index.now }
-    requires items { length lists.now ≡ length history.now.schedule.opening }
-    requires read { AreRead lists.now }
+    requires list_per_item { length values_read.now ≡ length history.now.schedule.opening }
+    requires reads_in_range { AreReadsInRange values_read.now }
 {
     let _invariant = history.log(); // brings the invariant into the proof
-    let owner = draft.version(id).owner;
-    let Some(txn) = updates.get(owner as usize).copied() else {
+    let writer = amounts.version(id).writer;
+    let Some(txn) = updates.get(writer as usize).copied() else {
         return Ok(0);
     };
-    let row = index.accesses_of(history, txn, list)?;
-    let j = id.saturating_sub(draft.start(owner));
-    Ok(cost_in(history.metric(), lists, row, j as usize))
+    let accesses = index.accesses_of(history, txn, buffer)?;
+    let j = id.saturating_sub(amounts.first_version(writer));
+    Ok(cost_in(history.metric(), values_read, accesses, j as usize))
 }
 
-impl Searches {
-    fn none(alloc: Global, updates: usize) -> Result<Searches, AllocError> {
-        let unseen = Sight {
-            round: 0,
-            way: Way::Less(0),
-            from: NOBODY,
-        };
-        Ok(Searches {
-            looks: MAX_LOOKS.saturating_mul(updates as u64),
-            round: 0,
-            seen: Vec::new(alloc),
-            sights: vec![in alloc; unseen; updates]?,
+impl SearchState {
+    /// Returns the state before the first search.
+    fn new(alloc: Global, updates: usize) -> Result<SearchState, AllocError> {
+        Ok(SearchState {
+            visits_left: MAX_VISITS_PER_UPDATE.saturating_mul(updates as u64),
+            search_number: 0,
+            queue: Vec::new(alloc),
+            head: 0,
+            last_search: vec![in alloc; 0u32; updates]?,
         })
     }
 
-    fn see(&mut self, update: u16, way: Way, from: u16) -> Result<(), AllocError> {
-        let i = update as usize;
-        if i < self.sights.len() {
-            let round = self.sights[i].round;
-            if round != self.round && round != DEAD {
-                self.sights[i] = Sight {
-                    round: self.round,
-                    way,
-                    from,
-                };
-                self.seen.push(update)?;
+    /// Enqueues an update, unless this search has reached it or no search can succeed from it.
+    fn enqueue(&mut self, reached: Reached) -> Result<(), AllocError> {
+        let i = reached.update as usize;
+        if i < self.last_search.len() {
+            let last = self.last_search[i];
+            if last != self.search_number && last != DEAD {
+                self.last_search[i] = self.search_number;
+                self.queue.push(reached)?;
             }
         }
         Ok(())
     }
 
-    /// Visits the versions that an update overwrites and leaves. Returns an item whose version of an earlier update can take
-    /// more.
-    fn look_from(
+    /// Expands an update: follows the residual arcs from it. Returns an item whose current version has residual capacity, if the
+    /// update overwrites that version. `source` is the update whose excess is to be routed.
+    fn expand(
         &mut self,
-        draft: &Draft,
+        amounts: &ProposedAmounts,
+        source: u16,
         update: u16,
-        node: u16,
-        row: &[Access],
+        accesses: &[Access],
     ) -> Result<Option<ItemId>, AllocError> {
-        let mut id = draft.start(node);
-        for access in row {
-            self.looks = self.looks.saturating_sub(1);
-            let version = draft.version(id);
-            let earlier = version.earlier();
-            if earlier != NONE {
-                // the versions that the update itself overwrites are full
-                if node != update {
-                    let below = draft.version(earlier);
-                    if below.owner == NOBODY || below.owner < update {
-                        if 0 < draft.room(access.item) {
+        let mut id = amounts.first_version(update);
+        for access in accesses {
+            self.visits_left = self.visits_left.saturating_sub(1);
+            let version = amounts.version(id);
+            let overwritten = version.overwritten();
+            if overwritten != NONE {
+                // the versions that the source itself overwrites have no residual capacity
+                if update != source {
+                    let overwritten_version = amounts.version(overwritten);
+                    if overwritten_version.writer == NOBODY || overwritten_version.writer < source {
+                        if 0 < amounts.residual(access.item) {
                             return Ok(Some(access.item));
                         }
-                    } else if below.has_spare() {
-                        self.see(below.owner, Way::More(earlier), node)?;
+                    } else if overwritten_version.has_residual() {
+                        self.enqueue(Reached {
+                            update: overwritten_version.writer,
+                            predecessor: self.head,
+                            arc: ResidualArc::Increase(overwritten),
+                        })?;
                     }
                 }
-                if version.next != NOBODY && 0 < version.amount {
-                    self.see(version.next, Way::Less(id), node)?;
+                if version.overwriter != NOBODY && 0 < version.amount {
+                    self.enqueue(Reached {
+                        update: version.overwriter,
+                        predecessor: self.head,
+                        arc: ResidualArc::Decrease(id),
+                    })?;
                 }
             }
             id = id.saturating_add(1);
@@ -151,223 +164,312 @@ impl Searches {
         Ok(None)
     }
 
-    /// Returns an item whose version of an earlier update can take more, and the update that overwrites it.
-    fn search<M: Metric>(
+    /// Begins a search from an update with an excess.
+    fn begin(&mut self, source: u16) -> Result<(), AllocError> {
+        self.search_number = self.search_number.saturating_add(1);
+        self.queue.clear();
+        self.head = 0;
+        self.enqueue(Reached {
+            update: source,
+            predecessor: 0,
+            arc: ResidualArc::Decrease(NONE),
+        })
+    }
+
+    /// Returns the end of the next augmenting path of the current search.
+    fn next_target<M: Metric>(
         &mut self,
         history: &History<M>,
         index: &Index,
         updates: &[TxnId],
-        draft: &Draft,
-        update: u16,
-        list: &mut Vec<Access>,
+        amounts: &ProposedAmounts,
+        source: u16,
+        buffer: &mut Vec<Access>,
     ) -> Result<Option<Target>, AllocError>
         requires index { IsWholeIndexOf history.now.schedule.entries index.now }
     {
-        self.round = self.round.saturating_add(1);
-        self.seen.clear();
-        self.see(update, Way::Less(0), NOBODY)?;
-        for head in 0..self.sights.len() {
-            let Some(node) = self.seen.get(head).copied() else {
+        for _ in 0..self.last_search.len() {
+            let Some(reached) = self.queue.get(self.head as usize).copied() else {
                 return Ok(None);
             };
-            let Some(txn) = updates.get(node as usize).copied() else {
+            let Some(txn) = updates.get(reached.update as usize).copied() else {
                 return Ok(None);
             };
-            let row = index.accesses_of(history, txn, list)?;
-            if let Some(item) = self.look_from(draft, update, node, row)? {
-                return Ok(Some(Target { item, node }));
+            let accesses = index.accesses_of(history, txn, buffer)?;
+            if let Some(item) = self.expand(amounts, source, reached.update, accesses)? {
+                return Ok(Some(Target {
+                    item,
+                    overwriter: self.head,
+                }));
             }
+            self.skip();
         }
         Ok(None)
     }
 
-    /// Excludes the updates that this search reached from later searches: none of them leads to a target.
+    /// Continues the search after the update that was expanded last.
+    fn skip(&mut self) {
+        self.head = self.head.saturating_add(1);
+    }
+
+    /// Makes later searches skip the updates that this search reached: none of them leads to a target.
     fn exclude_reached(&mut self) {
-        for node in &self.seen {
-            let i = *node as usize;
-            if i < self.sights.len() {
-                self.sights[i].round = DEAD;
+        for reached in &self.queue {
+            let i = reached.update as usize;
+            if i < self.last_search.len() {
+                self.last_search[i] = DEAD;
             }
         }
     }
 
-    fn sight(&self, node: u16) -> Option<Sight> {
-        self.sights.get(node as usize).copied()
+    /// Returns the update at an index of the queue, unless it is the source.
+    fn reached(&self, i: u16) -> Option<Reached> {
+        if i == 0 {
+            return None;
+        }
+        self.queue.get(i as usize).copied()
     }
 
-    /// Returns the maximum amount that can move along the path.
-    fn least_room<M: Metric>(
+    /// Returns the bottleneck of the path from the source to the target, at most `limit`.
+    fn bottleneck<M: Metric>(
         &self,
         history: &History<M>,
         index: &Index,
         updates: &[TxnId],
-        lists: &[Vec<i64>],
-        draft: &Draft,
-        update: u16,
+        values_read: &[Vec<i64>],
+        amounts: &ProposedAmounts,
         target: Target,
-        most: u64,
-        list: &mut Vec<Access>,
+        limit: u64,
+        buffer: &mut Vec<Access>,
     ) -> Result<u64, AllocError>
         requires index { IsWholeIndexOf history.now.schedule.entries index.now }
-        requires items { length lists.now ≡ length history.now.schedule.opening }
-        requires read { AreRead lists.now }
+        requires list_per_item { length values_read.now ≡ length history.now.schedule.opening }
+        requires reads_in_range { AreReadsInRange values_read.now }
     {
-        let mut least = most;
-        let mut node = target.node;
-        for _ in 0..self.sights.len() {
-            if node == update {
+        let mut least = limit;
+        let mut i = target.overwriter;
+        for _ in 0..self.queue.len() {
+            let Some(reached) = self.reached(i) else {
                 return Ok(least);
-            }
-            let Some(sight) = self.sight(node) else {
-                return Ok(0);
             };
-            let room = match sight.way {
-                Way::Less(id) => draft.version(id).amount,
-                Way::More(id) => {
-                    let cost = cost_of(history, index, updates, lists, draft, id, list)?;
-                    cost.saturating_sub(draft.version(id).amount)
+            let residual = match reached.arc {
+                ResidualArc::Decrease(id) => amounts.version(id).amount,
+                ResidualArc::Increase(id) => {
+                    let cost = cost_of(history, index, updates, values_read, amounts, id, buffer)?;
+                    cost.saturating_sub(amounts.version(id).amount)
                 }
             };
-            least = least.min(room);
-            node = sight.from;
+            least = least.min(residual);
+            i = reached.predecessor;
         }
         Ok(0)
     }
 
-    /// Moves an amount along the path.
-    fn bring<M: Metric>(
+    /// Augments along the path from the source to the target by an amount.
+    fn augment<M: Metric>(
         &self,
         history: &History<M>,
         index: &Index,
         updates: &[TxnId],
-        lists: &[Vec<i64>],
-        draft: &mut Draft,
-        update: u16,
+        values_read: &[Vec<i64>],
+        amounts: &mut ProposedAmounts,
         target: Target,
         amount: u64,
-        list: &mut Vec<Access>,
+        buffer: &mut Vec<Access>,
     ) -> Result<(), AllocError>
         requires index { IsWholeIndexOf history.now.schedule.entries index.now }
-        requires items { length lists.now ≡ length history.now.schedule.opening }
-        requires read { AreRead lists.now }
+        requires list_per_item { length values_read.now ≡ length history.now.schedule.opening }
+        requires reads_in_range { AreReadsInRange values_read.now }
     {
-        let mut node = target.node;
-        for _ in 0..self.sights.len() {
-            if node == update {
-                return Ok(());
-            }
-            let Some(sight) = self.sight(node) else {
+        let mut i = target.overwriter;
+        for _ in 0..self.queue.len() {
+            let Some(reached) = self.reached(i) else {
                 return Ok(());
             };
-            match sight.way {
-                Way::Less(id) => draft.take(id, amount),
-                Way::More(id) => {
-                    let cost = cost_of(history, index, updates, lists, draft, id, list)?;
-                    draft.give(id, amount, cost);
+            match reached.arc {
+                ResidualArc::Decrease(id) => amounts.decrease(id, amount),
+                ResidualArc::Increase(id) => {
+                    let cost = cost_of(history, index, updates, values_read, amounts, id, buffer)?;
+                    amounts.increase(id, amount, cost);
                 }
             }
-            node = sight.from;
+            i = reached.predecessor;
         }
         Ok(())
     }
 
-    /// Finds versions of earlier updates for an amount that an update has to distribute.
-    fn supply<M: Metric>(
+    /// Moves an amount along the path to a target: as much as the path and the target can take, at most `excess`. Returns the
+    /// amount, and skips the update that the path ends at if the path can take no more.
+    fn route<M: Metric>(
         &mut self,
         history: &History<M>,
         index: &Index,
         updates: &[TxnId],
-        lists: &[Vec<i64>],
-        draft: &mut Draft,
-        update: u16,
-        due: u64,
-        list: &mut Vec<Access>,
+        values_read: &[Vec<i64>],
+        amounts: &mut ProposedAmounts,
+        target: Target,
+        excess: u64,
+        buffer: &mut Vec<Access>,
+    ) -> Result<u64, AllocError>
+        requires index { IsWholeIndexOf history.now.schedule.entries index.now }
+        requires list_per_item { length values_read.now ≡ length history.now.schedule.opening }
+        requires reads_in_range { AreReadsInRange values_read.now }
+    {
+        let limit = amounts.residual(target.item).min(excess);
+        let amount = self.bottleneck(
+            history,
+            index,
+            updates,
+            values_read,
+            amounts,
+            target,
+            limit,
+            buffer,
+        )?;
+        if amount < limit {
+            self.skip();
+        }
+        if 0 < amount {
+            amounts.add_to_current(target.item, amount);
+            self.augment(
+                history,
+                index,
+                updates,
+                values_read,
+                amounts,
+                target,
+                amount,
+                buffer,
+            )?;
+        }
+        Ok(amount)
+    }
+
+    /// Moves as much of the excess of an update as possible along augmenting paths to earlier versions. A search continues after
+    /// each path; if it has found any, another one follows, since the paths have opened and closed arcs.
+    fn route_excess<M: Metric>(
+        &mut self,
+        history: &History<M>,
+        index: &Index,
+        updates: &[TxnId],
+        values_read: &[Vec<i64>],
+        amounts: &mut ProposedAmounts,
+        source: u16,
+        excess: u64,
+        buffer: &mut Vec<Access>,
     ) -> Result<(), AllocError>
         requires index { IsWholeIndexOf history.now.schedule.entries index.now }
-        requires items { length lists.now ≡ length history.now.schedule.opening }
-        requires read { AreRead lists.now }
+        requires list_per_item { length values_read.now ≡ length history.now.schedule.opening }
+        requires reads_in_range { AreReadsInRange values_read.now }
     {
-        let mut due = due;
-        for _ in 0..self.looks {
-            if due == 0 || self.looks == 0 {
+        let mut excess = excess;
+        let mut found = 0u64;
+        self.begin(source)?;
+        for _ in 0..self.visits_left {
+            if excess == 0 || self.visits_left == 0 {
                 return Ok(());
             }
-            let Some(target) = self.search(history, index, updates, draft, update, list)? else {
-                self.exclude_reached();
-                return Ok(());
-            };
-            let most = draft.room(target.item).min(due);
-            let amount = self.least_room(
-                history, index, updates, lists, draft, update, target, most, list,
-            )?;
-            if amount == 0 {
-                return Ok(());
+            let next = self.next_target(history, index, updates, amounts, source, buffer)?;
+            match next {
+                Some(target) => {
+                    let amount = self.route(
+                        history,
+                        index,
+                        updates,
+                        values_read,
+                        amounts,
+                        target,
+                        excess,
+                        buffer,
+                    )?;
+                    excess = excess.saturating_sub(amount);
+                    found = found.saturating_add(amount);
+                }
+                None if found == 0 => {
+                    self.exclude_reached();
+                    return Ok(());
+                }
+                None => {
+                    found = 0;
+                    self.begin(source)?;
+                }
             }
-            draft.add(target.item, amount);
-            self.bring(
-                history, index, updates, lists, draft, update, target, amount, list,
-            )?;
-            due = due.saturating_sub(amount);
         }
         Ok(())
     }
 }
 
-/// Goes back along the updates from the last to the position `first`.
+/// Distributes the amounts of the updates from the last one back to the position `first`.
 fn sweep<M: Metric>(
     alloc: Global,
     history: &History<M>,
     index: &Index,
     updates: &[TxnId],
     first: usize,
-    lists: &[Vec<i64>],
-    draft: &mut Draft,
+    values_read: &[Vec<i64>],
+    amounts: &mut ProposedAmounts,
 ) -> Result<(), AllocError>
     requires index { IsWholeIndexOf history.now.schedule.entries index.now }
-    requires items { length lists.now ≡ length history.now.schedule.opening }
-    requires read { AreRead lists.now }
+    requires list_per_item { length values_read.now ≡ length history.now.schedule.opening }
+    requires reads_in_range { AreReadsInRange values_read.now }
 {
-    let mut searches = Searches::none(alloc, updates.len())?;
-    let mut list = Vec::new(alloc);
+    let mut searches = SearchState::new(alloc, updates.len())?;
+    let mut buffer = Vec::new(alloc);
     for i in (first..updates.len()).rev() {
-        let update = position(i);
-        let row = index.accesses_of(history, updates[i], &mut list)?;
-        let rest = draft.step_back(row, update);
-        if 0 < rest {
-            searches.supply(
-                history, index, updates, lists, draft, update, rest, &mut list,
+        let update = to_u16_or_nobody(i);
+        let accesses = index.accesses_of(history, updates[i], &mut buffer)?;
+        let excess = amounts.distribute(accesses, update);
+        if 0 < excess {
+            searches.route_excess(
+                history,
+                index,
+                updates,
+                values_read,
+                amounts,
+                update,
+                excess,
+                &mut buffer,
             )?;
         }
     }
     Ok(())
 }
 
-/// Returns an amount for each version: for the opening values by item, then for each access of the updates.
+/// Returns proposed amounts: for the opening values by item, then for each access of the updates in commit order. The sweep
+/// goes back to the position `first`.
 ///
 /// # Errors
 ///
 /// An allocation failed.
-pub fn draft<M: Metric>(
+pub fn propose_amounts<M: Metric>(
     alloc: Global,
     history: &History<M>,
     index: &Index,
     updates: &[TxnId],
     first: usize,
-    lists: &[Vec<i64>],
-) -> Result<Draft, AllocError>
+    values_read: &[Vec<i64>],
+) -> Result<ProposedAmounts, AllocError>
     requires index { IsWholeIndexOf history.now.schedule.entries index.now }
-    requires items { length lists.now ≡ length history.now.schedule.opening }
-    requires read { AreRead lists.now }
+    requires list_per_item { length values_read.now ≡ length history.now.schedule.opening }
+    requires reads_in_range { AreReadsInRange values_read.now }
 {
     let _invariant = history.log(); // brings the invariant into the proof
-    let mut list = Vec::new(alloc);
-    let mut draft = Draft::opening(alloc, history, lists)?;
+    let mut buffer = Vec::new(alloc);
+    let mut amounts = ProposedAmounts::opening(alloc, history, values_read, updates.len())?;
     for i in 0..updates.len() {
-        let row = index.accesses_of(history, updates[i], &mut list)?;
-        draft.push_row(history.metric(), lists, row, position(i))?;
+        let accesses = index.accesses_of(history, updates[i], &mut buffer)?;
+        amounts.push_update(history.metric(), values_read, accesses, to_u16_or_nobody(i))?;
     }
-    draft.close()?;
-    sweep(alloc, history, index, updates, first, lists, &mut draft)?;
-    draft.settle();
-    Ok(draft)
+    amounts.init_amounts()?;
+    sweep(
+        alloc,
+        history,
+        index,
+        updates,
+        first,
+        values_read,
+        &mut amounts,
+    )?;
+    amounts.store_current();
+    Ok(amounts)
 }

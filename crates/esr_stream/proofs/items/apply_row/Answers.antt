@@ -18,7 +18,7 @@ no_access = record { value = pos 0; item = record { 0 = 0 }; writes = false }
 
 pub loop-j-preserved : goal.loop-j-preserved
 loop-j-preserved g c =
-    let C = raised (g.M.Metric.distance_by (g.M.Metric.weights c.args.metric.now)) c.args.lists.now in
+    let C = raised (g.M.Metric.distance_by (g.M.Metric.weights c.args.metric.now)) c.args.values_read.now in
     let access : Access = get_or c.args.row.now c.loop-j.j no_access in
     let more : take (c.loop-j.j + 1) c.args.row.now ≡ take c.loop-j.j c.args.row.now ++ access ∷ [] = take_more c.args.row.now c.loop-j.j no_access c.loop-j-test.true in
     elim c.if-access.branch [

@@ -4,4 +4,4 @@ use Rattle.esr_stream.specs.Passes.{IsRowApplied}
 use Rattle.esr_stream.proofs.items.apply_row.Given as goal
 
 abbrev pub invariant-loop-j : goal.invariant-loop-j
-invariant-loop-j g l = IsRowApplied (raised (g.M.Metric.distance_by (g.M.Metric.weights l.metric)) l.lists) l.marked (take l.j l.row) l.fn.states l.states l.before l.after
+invariant-loop-j g l = IsRowApplied (raised (g.M.Metric.distance_by (g.M.Metric.weights l.metric)) l.values_read) l.marked (take l.j l.row) l.fn.states l.states l.before l.after

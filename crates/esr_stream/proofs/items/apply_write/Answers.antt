@@ -6,10 +6,10 @@ use Rattle.esr_stream.proofs.RowLaws.{row_write}
 use Rattle.esr_stream.proofs.items.apply_write.Given.{Over}
 use Rattle.esr_stream.proofs.items.apply_write.Goals as goal
 
-told : (g : Over) (c : goal.After-min-lowered g) → c.raised_cost-cost.result ≡ raised (g.M.Metric.distance_by (g.M.Metric.weights c.args.metric.now)) c.args.lists.now c.args.access.item.0 c.args.access.value
-told g c = c.raised_cost-cost.ensures ∙ ap (raised (g.M.Metric.distance_by (g.M.Metric.weights c.args.metric.now)) c.args.lists.now c.args.access.item.0) (to_z-of_z w64 c.args.access.value (value_fits c.args.access.value c.requires.value))
+told : (g : Over) (c : goal.After-min-lowered g) → c.raised_cost-cost.result ≡ raised (g.M.Metric.distance_by (g.M.Metric.weights c.args.metric.now)) c.args.values_read.now c.args.access.item.0 c.args.access.value
+told g c = c.raised_cost-cost.ensures ∙ ap (raised (g.M.Metric.distance_by (g.M.Metric.weights c.args.metric.now)) c.args.values_read.now c.args.access.item.0) (to_z-of_z w64 c.args.access.value (value_fits c.args.access.value c.requires.value))
 
 pub returns : goal.returns
 returns g c = λ row old before after so_far.
-    row_write (raised (g.M.Metric.distance_by (g.M.Metric.weights c.args.metric.now)) c.args.lists.now) c.args.marked row c.args.access old c.args.states.now before after so_far
+    row_write (raised (g.M.Metric.distance_by (g.M.Metric.weights c.args.metric.now)) c.args.values_read.now) c.args.marked row c.args.access old c.args.states.now before after so_far
     c.requires.writes (omega (arith, c.requires.item, so_far.len)) c.raised_cost-cost.result c.min-lowered.result (told g c) (omega arith) _ refl

@@ -3,4 +3,4 @@ use Rattle.esr_stream.specs.Passes.{AreOpening}
 use Rattle.esr_stream.proofs.items.opening_states.Given as goal
 
 abbrev pub invariant-loop-x : goal.invariant-loop-x
-invariant-loop-x g l = AreOpening (raised (g.M.Metric.distance_by l.history.schedule.weights) l.lists) l.history.schedule.opening l.x l.states.items
+invariant-loop-x g l = AreOpening (raised (g.M.Metric.distance_by l.history.schedule.weights) l.values_read) l.history.schedule.opening l.x l.states.items

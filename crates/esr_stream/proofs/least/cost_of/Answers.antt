@@ -19,14 +19,14 @@ use Rattle.esr_stream.proofs.least.cost_of.Goals as goal
 pub loop-i-init : goal.loop-i-init
 loop-i-init g c =
     let h = c.args.history.now.schedule in
-    let C = raised (g.M.Metric.distance_by h.weights) c.args.lists.now in
+    let C = raised (g.M.Metric.distance_by h.weights) c.args.values_read.now in
     record {
       len = c.requires.states.len;
-      costs = λ x l. c.requires.states.cost x l ∙ cost_start g.M.Metric.distance_by h c.args.q.0 c.log-invariant.ensures.legal c.args.marks.now C c.args.from x c.requires.firsts;
+      costs = λ x l. c.requires.states.cost x l ∙ cost_start g.M.Metric.distance_by h c.args.q.0 c.log-invariant.ensures.legal c.args.marks.now C c.args.from x c.requires.prefix_marked;
     }
 
-pub fits_if-fit-requires-clause-items : goal.fits_if-fit-requires-clause-items
-fits_if-fit-requires-clause-items g c = c.requires.items ∙ sym c.loop-i.invariant.len
+pub fits_if-fit-requires-clause-list_per_item : goal.fits_if-fit-requires-clause-list_per_item
+fits_if-fit-requires-clause-list_per_item g c = c.requires.list_per_item ∙ sym c.loop-i.invariant.len
 
 pub fits_if-fit-requires-clause-row : goal.fits_if-fit-requires-clause-row
 fits_if-fit-requires-clause-row g c =
@@ -47,7 +47,7 @@ loop-i-preserved g c =
     let marks = c.args.marks.now in
     let legal = c.log-invariant.ensures.legal in
     let i = c.loop-i.i in
-    let C = raised (g.M.Metric.distance_by h.weights) c.args.lists.now in
+    let C = raised (g.M.Metric.distance_by h.weights) c.args.values_read.now in
     let row = c.in_ok-row.row.now in
     let here : i < length updates = c.loop-i-test.true in
     let inside : i < length (updates_committed_before h q) = omega (arith, here, commits_length d h q legal updates c.requires.updates) in
@@ -57,7 +57,7 @@ loop-i-preserved g c =
       len = c.fits_if-fit.ensures.len ∙ c.loop-i.invariant.len;
       costs = λ x l.
           cost_more d h q legal marks C i x c.loop-i.states new row (mark_at marks i) inside is_row refl (omega (arith, l, c.loop-i.invariant.len))
-          (λ m. let put = c.fits_if-fit.ensures.member c.if-not-fit.false m in (put.0, put.1, subst (λ w. IsRowApplied (raised (g.M.Metric.distance_by w) c.args.lists.now) true row c.loop-i.states new put.0 put.1) c.metric.ensures put.2))
+          (λ m. let put = c.fits_if-fit.ensures.member c.if-not-fit.false m in (put.0, put.1, subst (λ w. IsRowApplied (raised (g.M.Metric.distance_by w) c.args.values_read.now) true row c.loop-i.states new put.0 put.1) c.metric.ensures put.2))
           c.fits_if-fit.ensures.other
           (c.loop-i.invariant.costs x l);
     }
@@ -70,7 +70,7 @@ returns g c =
     let n : ℕ = length h.opening in
     let marks = c.args.marks.now in
     let legal = c.log-invariant.ensures.legal in
-    let C : ℕ → ℤ → ℕ = raised (g.M.Metric.distance_by h.weights) c.args.lists.now in
+    let C : ℕ → ℤ → ℕ = raised (g.M.Metric.distance_by h.weights) c.args.values_read.now in
     let states : List ItemState = c.loop-i.states in
     let S = among_marked (updates_committed_before h q) marks in
     let count = commits_length d h q legal c.args.updates.now c.requires.updates in

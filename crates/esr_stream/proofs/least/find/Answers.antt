@@ -6,20 +6,20 @@ use Rattle.esr_bound.specs.Amounts.{mark_at}
 use Rattle.esr_stream.proofs.CostLaws.{are_read}
 use Rattle.esr_stream.proofs.least.find.Goals as goal
 
-pub draft-requires-clause-read : goal.draft-requires-clause-read
-draft-requires-clause-read g c =
-    are_read g.M.Metric.distance_by c.args.history.now.schedule c.args.q.0 c.log-invariant.ensures.range c.log-invariant.ensures.legal c.args.lists.now c.requires.items c.requires.lists c.requires.query
+pub propose_amounts-requires-clause-reads_in_range : goal.propose_amounts-requires-clause-reads_in_range
+propose_amounts-requires-clause-reads_in_range g c =
+    are_read g.M.Metric.distance_by c.args.history.now.schedule c.args.q.0 c.log-invariant.ensures.range c.log-invariant.ensures.legal c.args.values_read.now c.requires.list_per_item c.requires.values_read c.requires.query
 
-pub start-requires-clause-read : goal.start-requires-clause-read
-start-requires-clause-read g c =
-    are_read g.M.Metric.distance_by c.args.history.now.schedule c.args.q.0 c.log-invariant.ensures.range c.log-invariant.ensures.legal c.args.lists.now c.requires.items c.requires.lists c.requires.query
+pub start-requires-clause-reads_in_range : goal.start-requires-clause-reads_in_range
+start-requires-clause-reads_in_range g c =
+    are_read g.M.Metric.distance_by c.args.history.now.schedule c.args.q.0 c.log-invariant.ensures.range c.log-invariant.ensures.legal c.args.values_read.now c.requires.list_per_item c.requires.values_read c.requires.query
 
-pub find_drafted-requires-clause-read : goal.find_drafted-requires-clause-read
-find_drafted-requires-clause-read g c =
-    are_read g.M.Metric.distance_by c.args.history.now.schedule c.args.q.0 c.log-invariant.ensures.range c.log-invariant.ensures.legal c.args.lists.now c.requires.items c.requires.lists c.requires.query
+pub find_with_amounts-requires-clause-reads_in_range : goal.find_with_amounts-requires-clause-reads_in_range
+find_with_amounts-requires-clause-reads_in_range g c =
+    are_read g.M.Metric.distance_by c.args.history.now.schedule c.args.q.0 c.log-invariant.ensures.range c.log-invariant.ensures.legal c.args.values_read.now c.requires.list_per_item c.requires.values_read c.requires.query
 
-pub find_drafted-requires-clause-musts : goal.find_drafted-requires-clause-musts
-find_drafted-requires-clause-musts g c = λ i l.
+pub find_with_amounts-requires-clause-prefix_marked : goal.find_with_amounts-requires-clause-prefix_marked
+find_with_amounts-requires-clause-prefix_marked g c = λ i l.
     let h = c.args.history.now.schedule in
     let d = g.M.Metric.distance_by in
     let legal = c.log-invariant.ensures.legal in

@@ -8,15 +8,15 @@ use Rattle.esr_stream.specs.Passes.{AreStates, ItemState}
 use Rattle.esr_stream.proofs.CostLaws.{are_read, costs_are}
 use Rattle.esr_stream.proofs.least.least_from.Goals as goal
 
-pub cost_of-requires-clause-read : goal.cost_of-requires-clause-read
-cost_of-requires-clause-read g c =
-    are_read g.M.Metric.distance_by c.args.history.now.schedule c.args.q.0 c.log-invariant.ensures.range c.log-invariant.ensures.legal c.args.lists.now c.requires.items c.requires.lists c.requires.query
+pub cost_of-requires-clause-reads_in_range : goal.cost_of-requires-clause-reads_in_range
+cost_of-requires-clause-reads_in_range g c =
+    are_read g.M.Metric.distance_by c.args.history.now.schedule c.args.q.0 c.log-invariant.ensures.range c.log-invariant.ensures.legal c.args.values_read.now c.requires.list_per_item c.requires.values_read c.requires.query
 
 pub cost_of-requires-clause-states : goal.cost_of-requires-clause-states
 cost_of-requires-clause-states g c =
     let h = c.args.history.now.schedule in
-    let C : ℕ → ℤ → ℕ = raised (g.M.Metric.distance_by h.weights) c.args.lists.now in
-    subst (λ (l : List ItemState). AreStates C h c.args.q.0 c.args.from c.args.marks.now l) (sym (c.deref_mut.ensures.value ∙ c.in_ok-states.ensures)) (c.requires.begin c.args.marks.now c.requires.firsts)
+    let C : ℕ → ℤ → ℕ = raised (g.M.Metric.distance_by h.weights) c.args.values_read.now in
+    subst (λ (l : List ItemState). AreStates C h c.args.q.0 c.args.from c.args.marks.now l) (sym (c.deref_mut.ensures.value ∙ c.in_ok-states.ensures)) (c.requires.start_states c.args.marks.now c.requires.prefix_marked)
 
 pub returns : goal.returns
 returns g c =
@@ -24,15 +24,15 @@ returns g c =
     let d = g.M.Metric.distance_by in
     let q = c.args.q.0 in
     let n : ℕ = length h.opening in
-    let lists = c.args.lists.now in
+    let values_read = c.args.values_read.now in
     let marks = c.args.marks.now in
     let S = among_marked (updates_committed_before h q) marks in
-    let C : ℕ → ℤ → ℕ = raised (g.M.Metric.distance_by h.weights) lists in
+    let C : ℕ → ℤ → ℕ = raised (g.M.Metric.distance_by h.weights) values_read in
     let equal : c.in-Some.cost ≡ c.args.worth = omega (arith, c.if-cost-worth.false) in
     let is : cost_by n C h q S ≡ c.args.worth = sym (subst (λ o. IfSome o (λ (s : ℕ). s ≡ cost_by n C h q S)) c.in-Some.is c.in_ok-found.ensures) ∙ equal in
     let found = law_of_set d h q n C (n * 17592186044416) c.args.worth marks
-    (costs_are d h q c.log-invariant.ensures.range c.log-invariant.ensures.legal lists c.requires.items c.requires.lists)
-    c.requires.shown.bound c.requires.shown.forced c.requires.shown.closed is in
+    (costs_are d h q c.log-invariant.ensures.range c.log-invariant.ensures.legal values_read c.requires.list_per_item c.requires.values_read)
+    c.requires.forced_and_closed.bound c.requires.forced_and_closed.forced c.requires.forced_and_closed.closed is in
     let listed = law_of_listed_sets d h q S found.0 in
     let scaled : c.items.result * 17592186044416 ≡ n * 17592186044416 = ap (λ m. m * 17592186044416) c.items.ensures.items in
     let distance : c.in-Some-without_offsets.distance ≡ cost d h q S = omega (arith, c.in-Some-without_offsets.ensures, scaled, found.1) in

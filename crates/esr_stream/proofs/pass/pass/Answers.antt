@@ -10,7 +10,7 @@ use Rattle.esr_order.proofs.Gathered.{commits_length}
 use Rattle.esr_order.proofs.Gathering.{no_txn}
 use Rattle.esr_order.proofs.BackwardSearch.{number_at}
 use Rattle.esr_stream.specs.Reads.{raised}
-use Rattle.esr_stream.specs.Passes.{IsPassed, IsRowApplied}
+use Rattle.esr_stream.specs.Passes.{IsPassInvariant, IsRowApplied}
 use Rattle.esr_stream.proofs.StepLaws.{accesses_valued}
 use Rattle.esr_stream.proofs.PassLaws.{passed_more, stay_more}
 use Rattle.esr_stream.proofs.pass.pass.Goals as goal
@@ -18,7 +18,7 @@ use Rattle.esr_stream.proofs.pass.pass.Goals as goal
 pub steps-keeps-requires-clause-row : goal.steps-keeps-requires-clause-row
 steps-keeps-requires-clause-row g c =
     subst (λ l. All (λ (a : Access). a.item.0 < length c.loop-i.states) l) (sym c.in_ok-row.ensures)
-    (accesses_inside g.M.Metric.distance_by c.args.history.now.schedule c.log-invariant.ensures.legal _ (length c.loop-i.states) (c.loop-i.invariant.len ∙ c.requires.items))
+    (accesses_inside g.M.Metric.distance_by c.args.history.now.schedule c.log-invariant.ensures.legal _ (length c.loop-i.states) (c.loop-i.invariant.len ∙ c.requires.list_per_item))
 
 pub steps-keeps-requires-clause-values : goal.steps-keeps-requires-clause-values
 steps-keeps-requires-clause-values g c =
@@ -33,7 +33,7 @@ loop-i-preserved g c =
     let updates = c.args.updates.now in
     let legal = c.log-invariant.ensures.legal in
     let i = c.loop-i.i in
-    let C = raised (g.M.Metric.distance_by c.args.history.now.schedule.weights) c.args.lists.now in
+    let C = raised (g.M.Metric.distance_by c.args.history.now.schedule.weights) c.args.values_read.now in
     let row = c.in_ok-row.row.now in
     let here : i < length updates = omega (arith, c.loop-i-test.true, c.requires.to) in
     let inside : i < length (updates_committed_before h q) = omega (arith, here, commits_length d h q legal updates c.requires.updates) in
@@ -43,7 +43,7 @@ loop-i-preserved g c =
     let marked = c.is_forced-marked.result in
     let kept = c.steps-keeps.ensures.row c.if-not-keeps.false in
     let put : IsRowApplied C marked row c.loop-i.states c.steps-keeps.new.states kept.0 kept.1 =
-    subst (λ w. IsRowApplied (raised (g.M.Metric.distance_by w) c.args.lists.now) marked row c.loop-i.states c.steps-keeps.new.states kept.0 kept.1) c.metric.ensures kept.2 in
+    subst (λ w. IsRowApplied (raised (g.M.Metric.distance_by w) c.args.values_read.now) marked row c.loop-i.states c.steps-keeps.new.states kept.0 kept.1) c.metric.ensures kept.2 in
     record {
       len = c.steps-keeps.ensures.len ∙ c.loop-i.invariant.len;
       marks = length-set c.loop-i.marks i marked ∙ c.loop-i.invariant.marks;
@@ -54,9 +54,9 @@ loop-i-preserved g c =
           put kept.3;
     }
 
-pub returns-clause-passed : goal.returns-clause-passed
-returns-clause-passed g c = λ whole worth seeds p.
+pub returns-clause-pass_invariant : goal.returns-clause-pass_invariant
+returns-clause-pass_invariant g c = λ whole worth seeds p.
     let h = c.args.history.now.schedule in
-    let C = raised (g.M.Metric.distance_by h.weights) c.args.lists.now in
+    let C = raised (g.M.Metric.distance_by h.weights) c.args.values_read.now in
     let e : c.loop-i.i ≡ c.args.to = omega (arith, c.loop-i-test.false, c.loop-i.auto.i-end, c.requires.from) in
-    subst (λ m. IsPassed (length h.opening) C h c.args.q.0 worth m seeds c.loop-i.marks c.loop-i.states) e (c.loop-i.invariant.passed worth seeds p)
+    subst (λ m. IsPassInvariant (length h.opening) C h c.args.q.0 worth m seeds c.loop-i.marks c.loop-i.states) e (c.loop-i.invariant.passed worth seeds p)

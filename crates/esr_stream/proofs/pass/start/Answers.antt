@@ -17,7 +17,7 @@ use Rattle.esr_stream.proofs.pass.start.Goals as goal
 
 pub loop-i-init : goal.loop-i-init
 loop-i-init g c = record {
-  len = (c.in_ok-states.ensures 0 []).len ∙ sym c.requires.items;
+  len = (c.in_ok-states.ensures 0 []).len ∙ sym c.requires.list_per_item;
   states = λ marks firsts. c.in_ok-states.ensures c.args.q.0 marks;
 }
 
@@ -25,7 +25,7 @@ pub fits-fit-requires-clause-row : goal.fits-fit-requires-clause-row
 fits-fit-requires-clause-row g c =
     subst (λ l. All (λ (a : Access). a.item.0 < length c.deref_mut.result.now) l) (sym c.in_ok-row.ensures)
     (accesses_inside g.M.Metric.distance_by c.args.history.now.schedule c.log-invariant.ensures.legal _ (length c.deref_mut.result.now)
-    (ap (λ (items : List ItemState). length items) c.deref_mut.ensures.value ∙ c.loop-i.invariant.len ∙ c.requires.items))
+    (ap (λ (items : List ItemState). length items) c.deref_mut.ensures.value ∙ c.loop-i.invariant.len ∙ c.requires.list_per_item))
 
 pub fits-fit-requires-clause-values : goal.fits-fit-requires-clause-values
 fits-fit-requires-clause-values g c =
@@ -40,14 +40,14 @@ loop-i-preserved g c =
     let updates = c.args.updates.now in
     let legal = c.log-invariant.ensures.legal in
     let i = c.loop-i.i in
-    let lists = c.args.lists.now in
-    let C = raised (g.M.Metric.distance_by h.weights) lists in
+    let values_read = c.args.values_read.now in
+    let C = raised (g.M.Metric.distance_by h.weights) values_read in
     let row = c.in_ok-row.row.now in
     let old : List ItemState = c.loop-i.states.items in
     let new : List ItemState = c.fits-fit.new.states in
-    let early : i < c.args.first = c.loop-i-test.true in
+    let early : i < c.args.mandatory_count = c.loop-i-test.true in
     let count = commits_length d h q legal updates c.requires.updates in
-    let inside : i < length (updates_committed_before h q) = omega (arith, early, must_below d h q legal, c.requires.first) in
+    let inside : i < length (updates_committed_before h q) = omega (arith, early, must_below d h q legal, c.requires.mandatory_count) in
     let here : i < length updates = omega (arith, inside, count) in
     let is_row = c.in_ok-row.ensures ∙ ap (accesses_in h.entries) (number_at updates (updates_committed_before h q) i no_txn c.requires.updates here) in
     let sized : length new ≡ length old = c.fits-fit.ensures.len ∙ ap (λ (l : List ItemState). length l) c.deref_mut.ensures.value in
@@ -55,7 +55,7 @@ loop-i-preserved g c =
     let kept = c.fits-fit.ensures.row c.if-not-fit.false in
     let put : IsRowApplied C true row old new kept.0 kept.1 =
     subst (λ l. IsRowApplied C true row l new kept.0 kept.1) c.deref_mut.ensures.value
-    (subst (λ w. IsRowApplied (raised (g.M.Metric.distance_by w) lists) true row c.deref_mut.result.now new kept.0 kept.1) c.metric.ensures kept.2) in
+    (subst (λ w. IsRowApplied (raised (g.M.Metric.distance_by w) values_read) true row c.deref_mut.result.now new kept.0 kept.1) c.metric.ensures kept.2) in
     record {
       len = ap (λ (l : List ItemState). length l) back ∙ sized ∙ c.loop-i.invariant.len;
       states = λ marks firsts.

@@ -5,11 +5,11 @@ use Rattle.esr_stream.proofs.reads.put_value.Goals as goal
 
 pub returns-in_ok-push : goal.returns-in_ok-push
 returns-in_ok-push c =
-    let lists = c.args.lists.now.items in
-    let inside : c.args.read.item.0 < length lists = omega (arith, c.if-x-len.true, c.len.ensures, c.args.lists.now.ok.0) in
+    let values_read = c.args.values_read.now.items in
+    let inside : c.args.read.item.0 < length values_read = omega (arith, c.if-x-len.true, c.len.ensures, c.args.values_read.now.ok.0) in
     let same : to_z w64 (of_z w64 c.args.read.value) ≡ c.args.read.value = search (rules, to_z-of_z) in
     record {
-      count = length-set lists c.args.read.item.0 c.push.new.self;
-      values = λ x l. put_at lists c.args.read c.if-read.false c.index_mut.result.now c.push.new.self inside c.index_mut.ensures.value
+      count = length-set values_read c.args.read.item.0 c.push.new.self;
+      values = λ x l. put_at values_read c.args.read c.if-read.false c.index_mut.result.now c.push.new.self inside c.index_mut.ensures.value
           (c.in_ok-push.ensures.items ∙ ap (λ v. c.index_mut.result.now.items ++ v ∷ []) same) x;
     }

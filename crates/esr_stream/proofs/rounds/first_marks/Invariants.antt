@@ -5,5 +5,5 @@ use Rattle.esr_stream.proofs.rounds.first_marks.Given as goal
 abbrev pub invariant-loop-i : goal.invariant-loop-i
 invariant-loop-i l = record {
   len : length l.marks.items ≡ l.i;
-  marks : (i : ℕ) → i < l.i → mark_at l.marks.items i ≡ nat_lt i l.first;
+  marks : (i : ℕ) → i < l.i → mark_at l.marks.items i ≡ nat_lt i l.set_count;
 }

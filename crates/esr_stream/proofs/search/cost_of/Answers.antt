@@ -5,12 +5,12 @@ use Rattle.esr_order.proofs.Accessed.{accesses_inside}
 use Rattle.esr_stream.proofs.StepLaws.{accesses_valued}
 use Rattle.esr_stream.proofs.search.cost_of.Goals as goal
 
-pub cost_in-requires-clause-row : goal.cost_in-requires-clause-row
-cost_in-requires-clause-row g c =
-    subst (λ l. All (λ (a : Access). a.item.0 < length c.args.lists.now) l) (sym c.in_ok-row.ensures)
-    (accesses_inside g.M.Metric.distance_by c.args.history.now.schedule c.log-invariant.ensures.legal _ (length c.args.lists.now) c.requires.items)
+pub cost_in-requires-clause-accesses : goal.cost_in-requires-clause-accesses
+cost_in-requires-clause-accesses g c =
+    subst (λ l. All (λ (a : Access). a.item.0 < length c.args.values_read.now) l) (sym c.in_ok-accesses.ensures)
+    (accesses_inside g.M.Metric.distance_by c.args.history.now.schedule c.log-invariant.ensures.legal _ (length c.args.values_read.now) c.requires.list_per_item)
 
 pub cost_in-requires-clause-values : goal.cost_in-requires-clause-values
 cost_in-requires-clause-values g c =
-    subst (λ l. All (λ (a : Access). IsValue a.value) l) (sym c.in_ok-row.ensures)
+    subst (λ l. All (λ (a : Access). IsValue a.value) l) (sym c.in_ok-accesses.ensures)
     (accesses_valued g.M.Metric.distance_by c.args.history.now.schedule c.log-invariant.ensures.range c.log-invariant.ensures.legal _)

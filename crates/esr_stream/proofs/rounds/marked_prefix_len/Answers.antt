@@ -1,7 +1,7 @@
 use Rattle.std.proofs.Common.{◌≡◌, ◌<◌, ◌∙◌, sym, ap, inl, inr, arith}
 use Rattle.std.proofs.lemmas.Bool.{cases_eq}
 use Rattle.esr_bound.specs.Amounts.{mark_at}
-use Rattle.esr_stream.proofs.rounds.are_first.Goals as goal
+use Rattle.esr_stream.proofs.rounds.marked_prefix_len.Goals as goal
 
 pub loop-i-preserved : goal.loop-i-preserved
 loop-i-preserved c = λ j l. elim (cases_eq j c.loop-i.i) [

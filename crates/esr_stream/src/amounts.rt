@@ -1,0 +1,479 @@
+//! Proposes an amount for each version. No contract constrains the amounts: the pass checks them.
+//!
+//! It lists the versions in commit order, each with the cost of the version that it overwrites, and then visits the updates
+//! from the last to the first. The last version of each item gets its cost as its amount. For each update, the sum of the
+//! amounts of the versions that it writes is distributed over the versions that it overwrites, in proportion to their costs.
+//! If these costs are less than the sum, the update has an *excess*, and a breadth-first search (`search`) looks for an
+//! earlier version that can take it. From an update, the search goes to the writer of a version that the update overwrites, if
+//! this version has residual capacity (its amount is less than its cost), and to the update that overwrites a version that the
+//! update writes, if the stored amount of this version is positive. So the search works in the flow network with all arcs
+//! reversed: an arc leads from the overwriter of a version to its writer. Each path carries its bottleneck or the excess,
+//! whichever is less. The amounts along the path change by this. So at each update strictly between the ends, the difference
+//! between the amounts that it writes and those that it overwrites stays the same. `MAX_VISITS_PER_UPDATE` bounds the work of
+//! all searches.
+//!
+//! A version takes 16 bytes. Until the sweep has passed it, the field `amount` has the cost of the version that it overwrites;
+//! afterwards, its own amount. So a search computes the costs on its path again. All stored costs and amounts include the
+//! offset. Rejected: separate lists of costs, amounts, writers and links, which take 28 bytes and
+//! several passes.
+ghost use Rattle.std.specs.Prelude.{◌≡◌, ◌<◌, All, length};
+ghost use Rattle.esr_items.specs.Values.{IsValue};
+ghost use Rattle.esr_stream.specs.Reads.{AreReadsInRange};
+
+use crate::reads::{OFFSET, raised_cost};
+use esr_history::History;
+use esr_items::{ItemId, Metric};
+use esr_order::Access;
+use std::alloc::{AllocError, Global};
+
+/// The id of no version. An id is an index in `ProposedAmounts::versions` and takes 31 bits.
+pub const NONE: u32 = u32::MAX >> 1;
+
+/// The position of no update.
+pub const NOBODY: u16 = u16::MAX;
+
+/// A version of an item. An access that only reads, and a write that its update repeats, have one too, which is never used.
+#[derive(Clone, Copy)]
+pub struct Version {
+    /// Its amount. Before the sweep has passed it: the cost of the version that it overwrites.
+    pub amount: u64,
+    /// Twice the id of the version that it overwrites (`NONE` for an opening value and for an unused version), plus 1 if its
+    /// amount is less than its cost.
+    link: u32,
+    /// The update that writes it.
+    pub writer: u16,
+    /// The update that overwrites it.
+    pub overwriter: u16,
+}
+
+impl Version {
+    /// Returns the id of the version that it overwrites, or `NONE`.
+    pub fn overwritten(self) -> u32 {
+        self.link >> 1
+    }
+
+    /// Returns whether its amount is less than its cost.
+    pub fn has_residual(self) -> bool {
+        self.link & 1 == 1
+    }
+
+    /// Returns the version with the update that overwrites it.
+    fn with_overwriter(self, overwriter: u16) -> Version {
+        Version {
+            amount: self.amount,
+            link: self.link,
+            writer: self.writer,
+            overwriter,
+        }
+    }
+
+    /// Returns the version without an amount, as if it overwrote no version.
+    fn without_link(self) -> Version {
+        Version {
+            amount: 0,
+            link: link_to(NONE),
+            writer: self.writer,
+            overwriter: self.overwriter,
+        }
+    }
+
+    /// Returns the version with another amount.
+    fn with_amount(self, amount: u64, has_residual: bool) -> Version {
+        let residual = if has_residual { 1 } else { 0 };
+        Version {
+            amount,
+            link: (self.link >> 1 << 1) | residual,
+            writer: self.writer,
+            overwriter: self.overwriter,
+        }
+    }
+}
+
+/// Returns the link of a version that overwrites another one, and has no residual capacity yet.
+fn link_to(overwritten: u32) -> u32 {
+    overwritten.min(NONE) << 1
+}
+
+/// The current version of an item: while the versions are listed, the last one; during the sweep, the one that is current at
+/// the position of the sweep.
+#[derive(Clone, Copy)]
+struct CurrentVersion {
+    id: u32,
+    /// Its cost, plus the offset.
+    cost: u64,
+    amount: u64,
+}
+
+/// The versions of the items: the opening values by item, then one version for each access, in order.
+#[derive(Drop)]
+pub struct ProposedAmounts {
+    pub versions: Vec<Version>,
+    /// The id of the first version of each update, and the end of the last update's ids.
+    starts: Vec<u32>,
+    /// The current version of each item.
+    current: Vec<CurrentVersion>,
+}
+
+/// Sums over the versions of one update, with one offset for each version.
+#[derive(Clone, Copy)]
+struct Sums {
+    /// The sum of the amounts of the versions that it writes: what is to be distributed.
+    incoming: u64,
+    /// The sum of the costs of the versions that it overwrites.
+    cost: u64,
+    /// The number of the versions that it overwrites.
+    count: u64,
+}
+
+/// Returns a number in 32 bits, or `u32::MAX` if it does not fit.
+fn to_u32_or_max(n: usize) -> u32 {
+    u32::try_from(n).unwrap_or(u32::MAX)
+}
+
+/// Returns a position in 16 bits, or `NOBODY` if it does not fit.
+pub fn to_u16_or_nobody(i: usize) -> u16 {
+    u16::try_from(i).unwrap_or(NOBODY)
+}
+
+impl ProposedAmounts {
+    /// Returns the versions before all updates, with capacity for the versions of these many updates.
+    pub fn opening<M: Metric>(
+        alloc: Global,
+        history: &History<M>,
+        values_read: &[Vec<i64>],
+        updates: usize,
+    ) -> Result<ProposedAmounts, AllocError>
+        requires list_per_item { length values_read.now ≡ length history.now.schedule.opening }
+        requires reads_in_range { AreReadsInRange values_read.now }
+    {
+        let capacity = history.log().len().saturating_add(history.items() as usize);
+        let mut amounts = ProposedAmounts {
+            versions: Vec::with_capacity(alloc, capacity)?,
+            starts: Vec::with_capacity(alloc, updates.saturating_add(1))?,
+            current: Vec::with_capacity(alloc, history.items() as usize)?,
+        };
+        for x in 0..history.items() {
+            let cost = raised_cost(
+                history.metric(),
+                values_read,
+                ItemId(x),
+                history.opening(ItemId(x)),
+            );
+            amounts.push_version(NOBODY, NONE, 0)?;
+            amounts.current.push(CurrentVersion {
+                id: x,
+                cost,
+                amount: 0,
+            })?;
+        }
+        Ok(amounts)
+    }
+
+    /// Appends a version. `cost` is that of the version that it overwrites, or 0.
+    fn push_version(&mut self, writer: u16, overwritten: u32, cost: u64) -> Result<(), AllocError> {
+        self.versions.push(Version {
+            amount: cost,
+            link: link_to(overwritten),
+            writer,
+            overwriter: NOBODY,
+        })?;
+        Ok(())
+    }
+
+    /// Returns the versions from an update on.
+    pub fn versions_from(&self, update: usize) -> &[Version] {
+        let first = match self.starts.get(update) {
+            Some(first) => *first as usize,
+            None => self.versions.len(),
+        };
+        if first <= self.versions.len() {
+            &self.versions[first..]
+        } else {
+            &[]
+        }
+    }
+
+    /// Returns the id of the first version of an update.
+    pub fn first_version(&self, update: u16) -> u32 {
+        match self.starts.get(update as usize) {
+            Some(id) => *id,
+            None => NONE,
+        }
+    }
+
+    /// Returns the version with an id.
+    pub fn version(&self, id: u32) -> Version {
+        match self.versions.get(id as usize) {
+            Some(version) => *version,
+            None => Version {
+                amount: 0,
+                link: link_to(NONE),
+                writer: NOBODY,
+                overwriter: NOBODY,
+            },
+        }
+    }
+
+    /// Returns the current version of an item.
+    fn current_version(&self, x: ItemId) -> CurrentVersion {
+        match self.current.get(x.0 as usize) {
+            Some(current) => *current,
+            None => CurrentVersion {
+                id: NONE,
+                cost: 0,
+                amount: 0,
+            },
+        }
+    }
+
+    fn set_version(&mut self, id: u32, version: Version) {
+        let id = id as usize;
+        if id < self.versions.len() {
+            self.versions[id] = version;
+        }
+    }
+
+    fn set_current(&mut self, x: ItemId, current: CurrentVersion) {
+        let x = x.0 as usize;
+        if x < self.current.len() {
+            self.current[x] = current;
+        }
+    }
+
+    /// Appends a write. `id` and `cost` are those of the new version, and `first_version` is the id of the update's first one.
+    fn push_write(
+        &mut self,
+        x: ItemId,
+        cost: u64,
+        update: u16,
+        first_version: u32,
+        id: u32,
+    ) -> Result<(), AllocError> {
+        let current = self.current_version(x);
+        let before = self.version(current.id);
+        self.set_current(
+            x,
+            CurrentVersion {
+                id,
+                cost,
+                amount: 0,
+            },
+        );
+        if current.id < first_version {
+            self.set_version(current.id, before.with_overwriter(update));
+            return self.push_version(update, current.id, current.cost);
+        }
+        // the same update has written the item before; that write no longer counts
+        self.set_version(current.id, before.without_link());
+        self.push_version(update, before.overwritten(), before.amount)
+    }
+
+    /// Appends the accesses of an update.
+    pub fn push_update<M: Metric>(
+        &mut self,
+        metric: &M,
+        values_read: &[Vec<i64>],
+        accesses: &[Access],
+        update: u16,
+    ) -> Result<(), AllocError>
+        requires reads_in_range { AreReadsInRange values_read.now }
+        requires accesses { All (λ a. a.item.0 < length values_read.now) accesses.now }
+        requires values { All (λ a. IsValue a.value) accesses.now }
+    {
+        let first_version = to_u32_or_max(self.versions.len());
+        self.starts.push(first_version)?;
+        let mut id = first_version;
+        for access in accesses {
+            if access.writes {
+                let cost = raised_cost(metric, values_read, access.item, access.value);
+                self.push_write(access.item, cost, update, first_version, id)?;
+            } else {
+                self.push_version(update, NONE, 0)?;
+            }
+            id = id.saturating_add(1);
+        }
+        Ok(())
+    }
+
+    /// Ends the list of versions, and gives the last version of each item its cost as its amount.
+    pub fn init_amounts(&mut self) -> Result<(), AllocError> {
+        let end = to_u32_or_max(self.versions.len());
+        self.starts.push(end)?;
+        for x in 0..self.current.len() {
+            let current = self.current[x];
+            self.current[x] = CurrentVersion {
+                id: current.id,
+                cost: current.cost,
+                amount: current.cost,
+            };
+        }
+        Ok(())
+    }
+
+    /// Stores the amounts of the versions that are current at the end of the sweep.
+    pub fn store_current(&mut self) {
+        for x in 0..to_u32_or_max(self.current.len()) {
+            let current = self.current_version(ItemId(x));
+            let version = self.version(current.id);
+            self.set_version(current.id, version.with_amount(current.amount, false));
+        }
+    }
+
+    /// Returns the sums of an update with these accesses.
+    fn sums(&self, accesses: &[Access], first_version: u32) -> Sums {
+        let mut sums = Sums {
+            incoming: 0,
+            cost: 0,
+            count: 0,
+        };
+        let mut id = first_version;
+        for access in accesses {
+            let version = self.version(id);
+            if version.overwritten() != NONE {
+                sums = Sums {
+                    incoming: sums
+                        .incoming
+                        .saturating_add(self.current_version(access.item).amount),
+                    cost: sums.cost.saturating_add(version.amount),
+                    count: sums.count.saturating_add(1),
+                };
+            }
+            id = id.saturating_add(1);
+        }
+        sums
+    }
+
+    /// Moves the sweep back past a write: stores the current amount in the version, and makes the version that it overwrites
+    /// current, with `overwritten_amount`.
+    fn retreat(&mut self, x: ItemId, id: u32, version: Version, overwritten_amount: u64) {
+        let current = self.current_version(x);
+        self.set_version(
+            id,
+            version.with_amount(current.amount, current.amount < current.cost),
+        );
+        self.set_current(
+            x,
+            CurrentVersion {
+                id: version.overwritten(),
+                cost: version.amount,
+                amount: overwritten_amount,
+            },
+        );
+    }
+
+    /// Gives the versions that an update overwrites their costs as amounts.
+    fn fill(&mut self, accesses: &[Access], first_version: u32) {
+        let mut id = first_version;
+        for access in accesses {
+            let version = self.version(id);
+            if version.overwritten() != NONE {
+                self.retreat(access.item, id, version, version.amount);
+            }
+            id = id.saturating_add(1);
+        }
+    }
+
+    /// Distributes an amount without offsets over the versions that an update overwrites, in
+    /// proportion to their costs. The ratio is a fixed-point number in units of 2^-31.
+    fn share(&mut self, accesses: &[Access], first_version: u32, net_amount: u64, ratio: u64) {
+        let mut left = net_amount;
+        let mut id = first_version;
+        for access in accesses {
+            let version = self.version(id);
+            if version.overwritten() != NONE {
+                let part = part_of(version.amount.saturating_sub(OFFSET), ratio).min(left);
+                self.retreat(access.item, id, version, part.saturating_add(OFFSET));
+                left = left.saturating_sub(part);
+            }
+            id = id.saturating_add(1);
+        }
+        self.share_rest(accesses, first_version, left);
+    }
+
+    /// Distributes what the rounding of the ratio has left.
+    fn share_rest(&mut self, accesses: &[Access], first_version: u32, rest: u64) {
+        let mut left = rest;
+        let mut id = first_version;
+        for access in accesses {
+            if left == 0 {
+                return;
+            }
+            if self.version(id).overwritten() != NONE {
+                let part = self.residual(access.item).min(left);
+                self.add_to_current(access.item, part);
+                left = left.saturating_sub(part);
+            }
+            id = id.saturating_add(1);
+        }
+    }
+
+    /// Returns the residual capacity of the current version of an item.
+    pub fn residual(&self, x: ItemId) -> u64 {
+        let current = self.current_version(x);
+        current.cost.saturating_sub(current.amount)
+    }
+
+    /// Adds to the amount of the current version of an item.
+    pub fn add_to_current(&mut self, x: ItemId, more: u64) {
+        let current = self.current_version(x);
+        let amount = current.amount.saturating_add(more);
+        self.set_current(
+            x,
+            CurrentVersion {
+                id: current.id,
+                cost: current.cost,
+                amount,
+            },
+        );
+    }
+
+    /// Decreases the amount of a version that the sweep has passed.
+    pub fn decrease(&mut self, id: u32, less: u64) {
+        let version = self.version(id);
+        let amount = version.amount.saturating_sub(less);
+        self.set_version(id, version.with_amount(amount, true));
+    }
+
+    /// Increases the amount of a version that the sweep has passed.
+    pub fn increase(&mut self, id: u32, more: u64, cost: u64) {
+        let version = self.version(id);
+        let amount = version.amount.saturating_add(more);
+        self.set_version(id, version.with_amount(amount, amount < cost));
+    }
+
+    /// Distributes the amounts of the versions that an update writes over those that it overwrites. Returns the excess.
+    pub fn distribute(&mut self, accesses: &[Access], update: u16) -> u64 {
+        let first_version = self.first_version(update);
+        let sums = self.sums(accesses, first_version);
+        if sums.cost <= sums.incoming {
+            self.fill(accesses, first_version);
+            return sums.incoming.saturating_sub(sums.cost);
+        }
+        let offsets = sums.count.saturating_mul(OFFSET);
+        let net_amount = sums.incoming.saturating_sub(offsets);
+        let ratio = ratio_of(net_amount, sums.cost.saturating_sub(offsets));
+        self.share(accesses, first_version, net_amount, ratio);
+        0
+    }
+}
+
+/// Returns the ratio of an amount to a larger sum in units of 2^-31, rounded down.
+fn ratio_of(amount: u64, sum: u64) -> u64 {
+    let down = 32u32.saturating_sub(sum.leading_zeros());
+    let parts = (amount >> down).saturating_mul(1 << 31);
+    // the divisor is rounded up, so the ratio is never too large
+    let Some(whole) = (sum >> down).checked_add(1) else {
+        return 0;
+    };
+    parts / whole
+}
+
+/// Returns a cost times a ratio, rounded down.
+fn part_of(cost: u64, ratio: u64) -> u64 {
+    // the product fits in 64 bits in both cases; a large cost loses its last 31 bits
+    if cost < 1 << 32 {
+        cost.saturating_mul(ratio) >> 31
+    } else {
+        (cost >> 31).saturating_mul(ratio)
+    }
+}
