@@ -9,7 +9,7 @@ use Rattle.esr_order.specs.Least.{nearest_placement, least_distance}
 use Rattle.esr_order.specs.Relevant.{AreRelevant}
 use Rattle.esr_audit.specs.Findings.{IsShown, summary, summary_of}
 use Rattle.esr_least.specs.declared.query.QueryAudit.{QueryAudit}
-use Rattle.esr_least.specs.Audits.{audited, IsAuditFrom}
+use Rattle.esr_least.specs.Audits.{audit_fields, IsStableAudit}
 use Rattle.esr_audit.specs.declared.finding.Finding.{Finding}
 use Rattle.esr_views.specs.QueryAnswers.{IsFound, IsFoundOf}
 use Rattle.esr_script.specs.QueryAnswers.{IsAuditOf}
@@ -41,9 +41,9 @@ module _ (s : ScriptState) (items names : List (List ℕ)) (was_closed : Bool) (
         (record { is_problem = shown.is_problem; relevant = relevant; certified = shown.certified; set_is = sym shown.set_is ∙ before; smallest = shown.smallest; without_count = shown.without_count });
   }
 
-  pub audit_of : (a : QueryAudit) → is_committed_query h q.0 ≡ true → audited a ≡ summary_of weighted h q.0 → IsAuditFrom weighted h a → IsAuditOf s name a
+  pub audit_of : (a : QueryAudit) → is_committed_query h q.0 ≡ true → audit_fields a ≡ summary_of weighted h q.0 → IsStableAudit weighted h a → IsAuditOf s name a
   audit_of a committed is stable = record {
     committed = both (λ k n. is_committed_query k n ≡ true) committed;
-    summary = both (λ k n. audited a ≡ summary_of weighted k n) is;
-    stable = both (λ k n. IsAuditFrom weighted k a) stable;
+    summary = both (λ k n. audit_fields a ≡ summary_of weighted k n) is;
+    stable = both (λ k n. IsStableAudit weighted k a) stable;
   }

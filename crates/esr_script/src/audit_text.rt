@@ -38,8 +38,8 @@ fn prepare<T: Threads + Sync, R: Read, G: Gate + Sync, O: Observer>(
     ensures reader { failed reader.new ≡ is_read_fault result }
     ensures write { is_write_fault result ≡ false }
 {
-    let mut script = replay(alloc, reader, observer)?;
-    script.audit_all(rt, workers, gate)
+    let script = replay(alloc, reader, observer)?;
+    script.into_audit_output(rt, workers, gate)
 }
 
 /// Runs a script without printing its replies, and audits its whole history with `workers` threads, 1 to 64. A worker

@@ -13,7 +13,7 @@ ghost use Rattle.esr_history.specs.Machine.{reply_to, extended};
 ghost use Rattle.esr_history.specs.Totals.{all_imports, all_exports};
 ghost use Rattle.esr_history.specs.Queries.{is_committed_query};
 ghost use Rattle.esr_audit.specs.Findings.{IsFindingOf, summary_of};
-ghost use Rattle.esr_least.specs.Audits.{audited, IsAuditFrom};
+ghost use Rattle.esr_least.specs.Audits.{audit_fields, IsStableAudit};
 ghost use Rattle.esr_items.specs.Weights.{weighted};
 
 use esr_audit::{AuditError, Finding, audit_query_with_index};
@@ -37,7 +37,7 @@ impl Model for IndexedMachine {
     ghost use Rattle.esr_history.specs.Machine.{Schedule};
     ghost use Rattle.esr_items.specs.Weights.{weighted};
     ghost use Rattle.esr_order.specs.Index.{IsIndexOf};
-    ghost use Rattle.esr_least.specs.Audits.{IsAuditFrom};
+    ghost use Rattle.esr_least.specs.Audits.{IsStableAudit};
     ghost use Rattle.std.specs.Prelude.{IfSome};
 
     ghost Value = { Schedule };
@@ -45,7 +45,7 @@ impl Model for IndexedMachine {
     ghost view = { λ e. e.machine };
 
     ghost invariant = { λ e. IsIndexOf e.machine.entries e.index
-        × IfSome e.last_audit (IsAuditFrom weighted e.machine) };
+        × IfSome e.last_audit (IsStableAudit weighted e.machine) };
 }
 
 impl IndexedMachine {
@@ -119,8 +119,8 @@ impl IndexedMachine {
     /// Audits a transaction, or returns the kept audit if that is of this transaction. None is kept afterwards.
     pub fn summarize(&mut self, alloc: Global, q: TxnId) -> Result<QueryAudit, AuditError>
         ensures same { self.new ≡ self.old }
-        ensures summary { IfOk result (λ a. audited a ≡ summary_of weighted self.old q.0) }
-        ensures stable { IfOk result (IsAuditFrom weighted self.old) }
+        ensures summary { IfOk result (λ a. audit_fields a ≡ summary_of weighted self.old q.0) }
+        ensures stable { IfOk result (IsStableAudit weighted self.old) }
         ensures committed { IfOk result (λ a. is_committed_query self.old q.0 ≡ true) }
         ensures not_committed_query { IsErrOf result AuditError.NotACommittedQuery → is_committed_query self.old q.0 ≡ false }
         ensures no_worker_error { ¬ IsErrOf result AuditError.WorkersOutOfRange }
@@ -136,11 +136,11 @@ impl IndexedMachine {
     }
 
     /// Returns the kept audit if it is of this transaction. None is kept afterwards.
-    #[tactic(auto, using(esr_least::proofs::Stays::at_present))]
+    #[tactic(auto, using(esr_least::proofs::Stable::at_present))]
     fn take_audit(&mut self, q: TxnId) -> Option<QueryAudit>
         ensures same { self.new ≡ self.old }
-        ensures summary { IfSome result (λ a. audited a ≡ summary_of weighted self.old q.0) }
-        ensures stable { IfSome result (IsAuditFrom weighted self.old) }
+        ensures summary { IfSome result (λ a. audit_fields a ≡ summary_of weighted self.old q.0) }
+        ensures stable { IfSome result (IsStableAudit weighted self.old) }
         ensures committed { IfSome result (λ a. is_committed_query self.old q.0 ≡ true) }
     {
         let _history = self.machine.history(); // brings legality into the proof
@@ -150,7 +150,7 @@ impl IndexedMachine {
 
     /// Keeps an audit for the next [`summarize`](IndexedMachine::summarize).
     pub fn keep(&mut self, audit: QueryAudit)
-        requires { IsAuditFrom weighted self.old audit }
+        requires { IsStableAudit weighted self.old audit }
         ensures { self.new ≡ self.old }
     {
         self.last_audit = Some(audit);

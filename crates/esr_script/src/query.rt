@@ -31,7 +31,7 @@ pub fn ask<R: Read, O: Observer>(
     ensures audited { (input : List ℕ) → R.remaining (inner reader.old) ≡ Some input
         → IsAuditedQuery input name.now (R.remaining (inner reader.new)) result }
     ensures reader { failed reader.new ≡ is_read_fault result }
-    ensures write { is_write_fault result ≡ false }
+    ensures no_write_fault { is_write_fault result ≡ false }
 {
     let script = replay(alloc, reader, observer)?;
     script.audited_query(name, observer)

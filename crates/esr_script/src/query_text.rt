@@ -1,5 +1,5 @@
-//! Writes a text of a query of a script: the whole script is run without its output, and a view renders the query.
-//! After a fault other than a failed write nothing was written.
+//! Writes a text about one query of a script: runs the whole script without its replies, audits the query, and writes what a
+//! view renders. Nothing is written unless the run and the rendering succeed.
 
 ghost use Rattle.std.specs.Prelude.{◌≡◌, ℕ, List, IfOk, IfErr, Ok, true, false, Some};
 ghost use Rattle.esr_base.specs.Watch.{inner, failed};
@@ -17,12 +17,12 @@ use esr_views::QueryView;
 use std::alloc::{AllocError, Global};
 use std::io::{Read, Write};
 
-/// Returns the text, or the fault of the run if there is none.
+/// Returns the text, or `RunFault::NoMemory` if an allocation failed.
 fn text_or_fault(text: Result<Vec<u8>, AllocError>) -> Result<Vec<u8>, RunFault>
     ensures ok { IfOk result (λ made. text ≡ Ok made) }
     ensures faults { IfErr result (λ e. e ≡ RunFault.NoMemory) }
-    ensures read { is_read_fault result ≡ false }
-    ensures write { is_write_fault result ≡ false }
+    ensures no_read_fault { is_read_fault result ≡ false }
+    ensures no_write_fault { is_write_fault result ≡ false }
 {
     match text {
         Ok(text) => Ok(text),
@@ -30,7 +30,7 @@ fn text_or_fault(text: Result<Vec<u8>, AllocError>) -> Result<Vec<u8>, RunFault>
     }
 }
 
-/// Returns the view's text of the script's query of that name.
+/// Runs a script, and returns the view's text for the query of that name.
 #[tactic(auto, using(crate::proofs::Handed::handed_on))]
 fn view_text<R: Read, T: QueryView, O: Observer>(
     alloc: Global,
@@ -45,17 +45,18 @@ fn view_text<R: Read, T: QueryView, O: Observer>(
         × T.IsTextOf view.now (final input) name.now text.items)
         (IsNoQuery input name.now) input (R.remaining (inner reader.new)) result }
     ensures reader { failed reader.new ≡ is_read_fault result }
-    ensures write { is_write_fault result ≡ false }
+    ensures no_write_fault { is_write_fault result ≡ false }
 {
     let mut audited = ask(alloc, reader, name, observer)?;
     text_or_fault(view.text_of(alloc, &mut audited))
 }
 
-/// Runs a script without writing its output, and writes the view's text of its query of that name.
+/// Runs a script without writing its replies, and writes the view's text for the query of that name. The observer receives
+/// each line with its outcome.
 ///
 /// # Errors
-/// Those of `ask`; `NoMemory` also if no text is made. After a fault other than `Write` nothing was written, after
-/// `Write` a prefix of the text.
+/// The errors of `ask`; `NoMemory` if the rendering runs out of memory; `Write` if a write failed, when a prefix of the text may
+/// have been written. After every other error nothing was written.
 #[tactic(auto, using(crate::proofs::Handed::handed_on))]
 pub fn render_query<R: Read, W: Write, T: QueryView, O: Observer>(
     alloc: Global,

@@ -484,22 +484,30 @@ impl Script {
         })
     }
 
-    /// Audits the whole history with `workers` threads.
-    pub fn audit_all<T: Threads + Sync, G: Gate + Sync>(
-        &mut self,
+    /// Ends the run, audits the whole history with `workers` threads, and returns the output. The engine is freed before the
+    /// output is made, which can take as much memory.
+    pub fn into_audit_output<T: Threads + Sync, G: Gate + Sync>(
+        mut self,
         rt: &T,
         workers: u64,
         gate: &G,
     ) -> Result<Vec<u8>, RunFault>
         requires { (1 ≤ workers) × (workers ≤ MAX_SEATS) }
-        ensures ok { IfOk result (λ out. out.items ≡ audit_output self.old) }
+        ensures ok { IfOk result (λ out. out.items ≡ audit_output self) }
         ensures faults { IfErr result (λ e. e ≡ RunFault.NoMemory) }
     {
         self.stage.ensure_started(self.alloc)?;
         let found = self.stage.audit_all(rt, self.alloc, workers, gate)?;
         let totals = self.stage.totals();
-        let mut out = Vec::new(self.alloc);
-        match push_audit(&mut out, &self.transactions, &found, totals) {
+        let Script {
+            alloc,
+            items: _items,
+            transactions,
+            stage,
+        } = self;
+        drop(stage);
+        let mut out = Vec::new(alloc);
+        match push_audit(&mut out, &transactions, &found, totals) {
             Ok(()) => Ok(out),
             Err(_) => Err(RunFault::NoMemory),
         }

@@ -10,7 +10,7 @@ ghost use Rattle.esr_history.specs.Queries.{is_committed_query};
 ghost use Rattle.esr_cert.specs.Views.{certificate_of};
 ghost use Rattle.esr_order.specs.Least.{nearest_placement, least_distance};
 ghost use Rattle.esr_audit.specs.Findings.{IsShown, AreSummaries, summary_of};
-ghost use Rattle.esr_least.specs.Audits.{audited, IsAuditFrom};
+ghost use Rattle.esr_least.specs.Audits.{audit_fields, IsStableAudit};
 ghost use Rattle.esr_order.specs.Relevant.{AreRelevant};
 ghost use Rattle.esr_items.specs.Weights.{weighted};
 
@@ -184,8 +184,8 @@ impl Stage {
         requires { is_running self.old ≡ true }
         ensures running { is_running self.new ≡ true }
         ensures same { history_of self.new ≡ history_of self.old }
-        ensures summary { IfOk result (λ a. audited a ≡ summary_of weighted (history_of self.old) q.0) }
-        ensures stable { IfOk result (IsAuditFrom weighted (history_of self.old)) }
+        ensures summary { IfOk result (λ a. audit_fields a ≡ summary_of weighted (history_of self.old) q.0) }
+        ensures stable { IfOk result (IsStableAudit weighted (history_of self.old)) }
         ensures committed { IfOk result (λ a. is_committed_query (history_of self.old) q.0 ≡ true) }
         ensures not_committed_query { IsErrOf result AuditError.NotACommittedQuery
             → is_committed_query (history_of self.old) q.0 ≡ false }
@@ -200,7 +200,7 @@ impl Stage {
     /// Keeps an audit for the next [`summarize`](Stage::summarize).
     pub fn keep(&mut self, audit: QueryAudit)
         requires running { is_running self.old ≡ true }
-        requires stable { IsAuditFrom weighted (history_of self.old) audit }
+        requires stable { IsStableAudit weighted (history_of self.old) audit }
         ensures running { is_running self.new ≡ true }
         ensures same { history_of self.new ≡ history_of self.old }
     {

@@ -13,5 +13,5 @@ returns-in_err-script-clause-ready g c input known = rw (handed_on _ _ c.from_re
 pub returns-clause-ready : goal.returns-clause-ready
 returns-clause-ready g c input known =
     let replayed = c.in_ok-script.ensures.replay input known in
-    let made = subst (λ (s : ScriptState). IfOk c.audit_all.result (λ (out : Vec ℕ Global). out.items ≡ audit_output s)) (sym replayed.2) c.audit_all.ensures.ok in
-    reached_then input (g.R.Read.remaining (inner c.replay.new.reader)) (λ (out : Vec ℕ Global). out.items ≡ audit_output (final input)) ⊥ c.audit_all.result replayed.0 replayed.1 made c.audit_all.ensures.faults
+    let made = subst (λ (s : ScriptState). IfOk c.into_audit_output.result (λ (out : Vec ℕ Global). out.items ≡ audit_output s)) (sym replayed.2) c.into_audit_output.ensures.ok in
+    reached_then input (g.R.Read.remaining (inner c.replay.new.reader)) (λ (out : Vec ℕ Global). out.items ≡ audit_output (final input)) ⊥ c.into_audit_output.result replayed.0 replayed.1 made c.into_audit_output.ensures.faults
