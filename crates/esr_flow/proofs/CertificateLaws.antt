@@ -120,7 +120,7 @@ certified p ok flow f has r s c set_is parts rows worth_is short =
     let dear : c.worth ≡ cost p (in_set c.set) = worth_is ∙ reach_cost p ok flow has f r s ∙ same in
     certifies_from p c (record {
       ascending = ap is_strictly_ascending set_is ∙ positions_ascend has (update_count p);
-      known = ap (list_all (λ u. nat_lt u (update_count p))) set_is ∙ positions_below has (update_count p);
+      in_range = ap (list_all (λ u. nat_lt u (update_count p))) set_is ∙ positions_below has (update_count p);
       closed = smallest.closed;
       within = and_from _ _ (and_from _ _ (and_from _ _ rows (eq-eqb _ _ parts.backs)) (eq-eqb _ _ parts.musts)) inside;
       conserved = conserved_from (network p) (amounts c) g.conserved;

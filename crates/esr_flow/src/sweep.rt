@@ -1,15 +1,16 @@
 //! Drafts a maximum flow, by two sweeps over the updates in commit order, starting at the prefix of least cost.
 //!
-//! On each chain the arc that leaves this prefix is filled. The first sweep runs backward from there: all updates
-//! before the current one act as the source, and the current update must receive the amounts that its later arcs carry.
-//! If the incoming arcs of chains have enough capacity, they share them. Otherwise searches look for residual paths to
-//! the update through the updates that were swept already. A node that a search visits without success is dead, since
-//! no later search could find anything there. At the end, an update releases the amounts that it did not receive. The
-//! second sweep runs forward in the same way, with all directions reversed; the updates after the current one act as
-//! the sink.
+//! On each chain the arc that leaves this prefix is filled. The first sweep runs backward from there: all updates before the
+//! current one act as the source, and the current update must receive the amounts that its later arcs carry. If the incoming
+//! arcs of chains have enough capacity, they share them. Otherwise searches look for residual paths to the update through the
+//! updates that were swept already. If a search finds none, the nodes that it has reached are dead, since no later search could
+//! find a path there. At the end, an update releases the amounts that it did not receive. The second sweep runs forward in the
+//! same way, with all directions reversed; the updates after the current one act as the sink.
 //!
-//! Nothing is guaranteed of the amounts. A separate test decides whether they are a flow, and augmentations raise a
-//! flow to a maximum.
+//! Rejected: to continue a search after each path. It takes longer paths, and a ring of neighbours took a quarter longer.
+//!
+//! Nothing is guaranteed of the amounts. A separate test decides whether they are a flow, and augmentations raise a flow to a
+//! maximum.
 ghost use Rattle.std.specs.Prelude.{◌≡◌, ◌<◌, length, IfOk};
 ghost use Rattle.esr_cert.specs.Network.{network};
 ghost use Rattle.esr_flow.specs.ResidualGraph.{network_arcs};
@@ -18,8 +19,8 @@ use crate::graph::ResidualGraph;
 use esr_cert::{Arc, Chain, PackedResidualArc, ResidualArc};
 use std::alloc::{AllocError, Global};
 
-/// How many rows all searches look at, for each node.
-const MAX_LOOKS: u64 = 120;
+/// The number of rows after which no further search starts, divided by the number of nodes.
+const MAX_VISITS_PER_NODE: u64 = 120;
 
 /// The maximum number of rounds in which released amounts pass to earlier updates.
 const MAX_ROUNDS: usize = 1000;
@@ -32,28 +33,28 @@ enum Sweep {
     Forward,
 }
 
-/// The state of a node.
+/// The label of a node in a search.
 #[derive(Clone, Copy)]
 struct NodeLabel {
-    /// The latest search that saw it.
-    round: u32,
-    /// A step between it and a node nearer to the start of that search.
-    way: ResidualArc,
-    /// Whether a search saw it in vain.
+    /// The number of the last search that reached it.
+    search_number: u32,
+    /// The step between it and the node from which that search reached it.
+    step: ResidualArc,
+    /// Whether no search can succeed from it.
     is_dead: bool,
 }
 
-/// The state of the searches of a sweep.
+/// The state of the searches of a sweep, which share their memory.
 #[derive(Drop)]
 struct Searches {
     sweep: Sweep,
-    /// How many rows they may still look at.
-    looks: u64,
-    /// The number of the latest.
-    round: u32,
-    /// The nodes that the latest saw, in order.
-    seen: Vec<u32>,
-    /// The state of each node.
+    /// How many more rows they may visit.
+    visits_left: u64,
+    /// The number of the current search.
+    search_number: u32,
+    /// The nodes that the current search has reached, in order.
+    queue: Vec<u32>,
+    /// The label of each node.
     node_labels: Vec<NodeLabel>,
 }
 
@@ -177,25 +178,25 @@ fn end_and_capacity(field: &Field, flow: &[u64], sweep: Sweep, step: ResidualArc
 
 /// Returns the direction in which a sweep's search uses a step from a node: the step itself, or its opposite if the
 /// node is to receive more.
-fn way_of(sweep: Sweep, step: ResidualArc) -> ResidualArc {
+fn step_of(sweep: Sweep, step: ResidualArc) -> ResidualArc {
     match sweep {
         Sweep::Back(_) => step.opposite(),
         Sweep::Forward => step,
     }
 }
 
-/// Returns the other end of the arc of a step from a node, and the way over it, if a sweep may use it. Amounts are
+/// Returns the other end of the arc of a step from a node, and the residual step over it, if a sweep may use it. Amounts are
 /// subtracted from back arcs only, since each arc of a chain has a back arc in the opposite direction.
-fn way_over(
+fn step_over(
     field: &Field,
     flow: &[u64],
     sweep: Sweep,
     step: ResidualArc,
 ) -> Option<(u32, ResidualArc)> {
-    let way = way_of(sweep, step);
-    let number = way.arc();
+    let residual_step = step_of(sweep, step);
+    let number = residual_step.arc();
     let amount = number_at(flow, number as usize);
-    let is_open = match way {
+    let is_open = match residual_step {
         ResidualArc::Forward(_) => 0 < capacity_on(field.limit(number), amount),
         ResidualArc::Backward(_) => 0 < amount && !field.is_of_chain(number),
     };
@@ -204,8 +205,8 @@ fn way_over(
     }
     let arc = arc_at(field, number);
     match step {
-        ResidualArc::Forward(_) => Some((arc.to, way)),
-        ResidualArc::Backward(_) => Some((arc.from, way)),
+        ResidualArc::Forward(_) => Some((arc.to, residual_step)),
+        ResidualArc::Backward(_) => Some((arc.from, residual_step)),
     }
 }
 
@@ -227,86 +228,87 @@ fn takes_part(field: &Field, sweep: Sweep, node: u32) -> bool {
 
 impl Searches {
     /// Prepares searches in a graph of `node_count` nodes.
-    fn none(alloc: Global, node_count: usize, sweep: Sweep) -> Result<Searches, AllocError> {
-        let unseen = NodeLabel {
-            round: 0,
-            way: ResidualArc::Forward(0),
+    fn new(alloc: Global, node_count: usize, sweep: Sweep) -> Result<Searches, AllocError> {
+        let unlabelled = NodeLabel {
+            search_number: 0,
+            step: ResidualArc::Forward(0),
             is_dead: false,
         };
         Ok(Searches {
             sweep,
-            looks: MAX_LOOKS.saturating_mul(node_count as u64),
-            round: 0,
-            seen: Vec::with_capacity(alloc, node_count)?,
-            node_labels: vec![in alloc; unseen; node_count]?,
+            visits_left: MAX_VISITS_PER_NODE.saturating_mul(node_count as u64),
+            search_number: 0,
+            queue: Vec::with_capacity(alloc, node_count)?,
+            node_labels: vec![in alloc; unlabelled; node_count]?,
         })
     }
 
     /// Begins a search from a node.
     fn begin(&mut self, node: u32) -> Result<(), AllocError> {
-        self.round = self.round.saturating_add(1);
-        self.seen.clear();
-        self.see(node, ResidualArc::Forward(0))
+        self.search_number = self.search_number.saturating_add(1);
+        self.queue.clear();
+        self.enqueue(node, ResidualArc::Forward(0))
     }
 
-    /// Records the path to a node, unless the search has visited it or the node is dead.
-    fn see(&mut self, node: u32, way: ResidualArc) -> Result<(), AllocError> {
-        let place = node as usize;
-        if place < self.node_labels.len() {
-            let node_label = self.node_labels[place];
-            if node_label.round != self.round && !node_label.is_dead {
-                self.node_labels[place] = NodeLabel {
-                    round: self.round,
-                    way,
+    /// Labels and enqueues a node, unless the search has reached it or the node is dead.
+    fn enqueue(&mut self, node: u32, step: ResidualArc) -> Result<(), AllocError> {
+        let i = node as usize;
+        if i < self.node_labels.len() {
+            let node_label = self.node_labels[i];
+            if node_label.search_number != self.search_number && !node_label.is_dead {
+                self.node_labels[i] = NodeLabel {
+                    search_number: self.search_number,
+                    step,
                     is_dead: false,
                 };
-                self.seen.push(node)?;
+                self.queue.push(node)?;
             }
         }
         Ok(())
     }
 
-    /// Returns the step by which the latest search came to a node.
-    fn way_from(&self, node: usize) -> ResidualArc {
+    /// Returns the step by which the current search reached a node.
+    fn step_to(&self, node: usize) -> ResidualArc {
         match self.node_labels.get(node) {
-            Some(node_label) => node_label.way,
+            Some(node_label) => node_label.step,
             None => ResidualArc::Forward(0),
         }
     }
 
-    /// Notes that the latest search was in vain.
-    fn end_in_vain(&mut self) {
-        for node in &self.seen {
-            let place = *node as usize;
-            if place < self.node_labels.len() {
-                self.node_labels[place].is_dead = true;
+    /// Makes later searches skip the nodes that this search reached: no path leads from them to the outside.
+    fn exclude_reached(&mut self) {
+        for node in &self.queue {
+            let i = *node as usize;
+            if i < self.node_labels.len() {
+                self.node_labels[i].is_dead = true;
             }
         }
     }
 
-    /// Sees the nodes to which there is a way from a node that was seen, until one is outside: the way there.
-    fn look_from(
+    /// Expands a node: enqueues the nodes to which a residual step leads, up to the first one that is outside. Returns the step
+    /// to that one.
+    fn expand(
         &mut self,
         field: &Field,
         flow: &[u64],
         update: u32,
         node: u32,
     ) -> Result<Option<ResidualArc>, AllocError> {
-        self.looks = self.looks.saturating_sub(1);
+        self.visits_left = self.visits_left.saturating_sub(1);
         for short in row_of(field, node as usize) {
-            if let Some((next, way)) = way_over(field, flow, self.sweep, short.unpack()) {
+            if let Some((next, step)) = step_over(field, flow, self.sweep, short.unpack()) {
                 if is_outside(field, self.sweep, update, next) {
-                    return Ok(Some(way));
+                    return Ok(Some(step));
                 }
                 if takes_part(field, self.sweep, next) {
-                    self.see(next, way)?;
+                    self.enqueue(next, step)?;
                 }
             }
         }
         Ok(None)
     }
 
-    /// Searches for a path between an update and the outside. Returns the step at the outside.
+    /// Searches for a shortest path between an update and the outside. Returns the step at the outside.
     fn search(
         &mut self,
         field: &Field,
@@ -315,56 +317,56 @@ impl Searches {
     ) -> Result<Option<ResidualArc>, AllocError> {
         self.begin(update)?;
         for head in 0..field.graph.node_count {
-            let Some(node) = self.seen.get(head).copied() else {
+            let Some(node) = self.queue.get(head).copied() else {
                 return Ok(None);
             };
-            let first = self.look_from(field, flow, update, node)?;
-            if first.is_some() {
-                return Ok(first);
+            let last = self.expand(field, flow, update, node)?;
+            if last.is_some() {
+                return Ok(last);
             }
         }
         Ok(None)
     }
 
-    /// Returns the residual capacity of the path that was found, but at most `due`; 0 without a path.
-    fn least_capacity(
+    /// Returns the bottleneck of a path, at most `due`; 0 without a path.
+    fn bottleneck(
         &self,
         field: &Field,
         flow: &[u64],
         update: u32,
-        first: ResidualArc,
+        last: ResidualArc,
         due: u64,
     ) -> u64 {
         let mut least = due;
-        let mut step = first;
+        let mut step = last;
         for _ in 0..field.graph.node_count {
             let (node, spare_capacity) = end_and_capacity(field, flow, self.sweep, step);
             least = least.min(spare_capacity);
             if node == update {
                 return least;
             }
-            step = self.way_from(node as usize);
+            step = self.step_to(node as usize);
         }
         0
     }
 
-    /// Adds an amount on each arc of the way that was found to an update.
-    fn bring(&self, field: &Field, flow: &mut [u64], update: u32, first: ResidualArc, amount: u64)
+    /// Adds an amount on each arc of a path.
+    fn augment(&self, field: &Field, flow: &mut [u64], update: u32, last: ResidualArc, amount: u64)
         ensures { length flow.new ≡ length flow.old }
     {
-        let mut step = first;
+        let mut step = last;
         for _ in 0..field.graph.node_count {
-            bring_over(field, flow, step, amount);
+            augment_over(field, flow, step, amount);
             let (node, _) = end_and_capacity(field, flow, self.sweep, step);
             if node == update {
                 return;
             }
-            step = self.way_from(node as usize);
+            step = self.step_to(node as usize);
         }
     }
 
-    /// Brings the amount due to an update, along the paths that are found. Returns the amount still due.
-    fn supply(
+    /// Adds the amount due to an update, along the paths that are found. Returns the amount still due.
+    fn route(
         &mut self,
         field: &Field,
         flow: &mut [u64],
@@ -374,17 +376,17 @@ impl Searches {
         ensures { length flow.new ≡ length flow.old }
     {
         let mut due = due;
-        // no more turns than looks are left, since each search takes one at least
-        for _ in 0..self.looks {
-            if due == 0 || self.looks == 0 {
+        // no more turns than visits are left, since each search takes one at least
+        for _ in 0..self.visits_left {
+            if due == 0 || self.visits_left == 0 {
                 return Ok(due);
             }
-            let Some(first) = self.search(field, flow, update)? else {
-                self.end_in_vain();
+            let Some(last) = self.search(field, flow, update)? else {
+                self.exclude_reached();
                 return Ok(due);
             };
-            let amount = self.least_capacity(field, flow, update, first, due);
-            self.bring(field, flow, update, first, amount);
+            let amount = self.bottleneck(field, flow, update, last, due);
+            self.augment(field, flow, update, last, amount);
             due = due.saturating_sub(amount);
         }
         Ok(due)
@@ -411,7 +413,7 @@ fn take_back(field: &Field, flow: &mut [u64], from: u32, to: u32, amount: u64) -
 
 /// Adds an amount on the arc of a step, or subtracts it if the step goes against the arc. An amount over a back arc is
 /// first subtracted from the arcs of chains in the opposite direction, which keeps paths short.
-fn bring_over(field: &Field, flow: &mut [u64], step: ResidualArc, amount: u64)
+fn augment_over(field: &Field, flow: &mut [u64], step: ResidualArc, amount: u64)
     ensures { length flow.new ≡ length flow.old }
 {
     match step {
@@ -565,7 +567,7 @@ fn add_update(
         return Ok(fill(field, flow, searches.sweep, node, left));
     }
     let left = fill(field, flow, searches.sweep, node, due);
-    searches.supply(field, flow, update, left)
+    searches.route(field, flow, update, left)
 }
 
 /// Subtracts the amount that a node did not receive from the arcs on its other side, so that the nodes there lack it.
@@ -629,7 +631,7 @@ fn add_back(
 ) -> Result<Vec<u64>, AllocError>
     ensures { length flow.new ≡ length flow.old }
 {
-    let mut searches = Searches::none(alloc, field.graph.node_count, Sweep::Back(middle))?;
+    let mut searches = Searches::new(alloc, field.graph.node_count, Sweep::Back(middle))?;
     let mut owed = vec![in alloc; 0u64; field.graph.node_count]?;
     for update in (0..middle).rev() {
         let left = add_update(field, flow, &mut searches, update)?;
@@ -647,7 +649,7 @@ fn add_forward(
 ) -> Result<Vec<u64>, AllocError>
     ensures { length flow.new ≡ length flow.old }
 {
-    let mut searches = Searches::none(alloc, field.graph.node_count, Sweep::Forward)?;
+    let mut searches = Searches::new(alloc, field.graph.node_count, Sweep::Forward)?;
     let mut owed = vec![in alloc; 0u64; field.graph.node_count]?;
     for update in middle..field.graph.source as u32 {
         let left = add_update(field, flow, &mut searches, update)?;
