@@ -135,7 +135,7 @@ certificate_is_short p c sound certified =
     let f : IsFaultless p c = faultless p c certified in
     let w : IsWithin p c = within_facts p c f.within in
     let updates : update_count p ≤ 65535 = distinct_bounded MAX_TRANSACTIONS p.updates s.distinct r.numbers in
-    let set : length c.set ≤ update_count p = ascending_bounded (update_count p) c.set f.ascending f.known in
+    let set : length c.set ≤ update_count p = ascending_bounded (update_count p) c.set f.ascending f.in_range in
     let musts : length p.must ≤ update_count p = ascending_bounded (update_count p) p.must s.must r.must in
     let chains : length p.chains ≤ 4096 =
     omega (arith, length-map p.chains (λ (c : Chain). c.item), ascending_bounded MAX_ITEMS (map (λ (c : Chain). c.item) p.chains) s.items (items_below (update_count p) p.chains r.chains)) in

@@ -49,7 +49,7 @@ module _ (d : DistanceFunction) (h : Schedule) (q : ℕ) (opening_values_in_rang
   inside = reads_inside d h q opening_values_in_range legal
 
   same : (u : ℕ) → u < update_count p → in_set c.set u ≡ passes_at p.updates (is_among members) u
-  same u l = sym (passes_as_set p.updates distinct c.set faults.ascending faults.known u l)
+  same u l = sym (passes_as_set p.updates distinct c.set faults.ascending faults.in_range u l)
 
   costs : problems.cost p (in_set c.set) ≡ problems.cost p (passes_at p.updates (is_among members))
   costs = same_cost p problem (in_set c.set) (passes_at p.updates (is_among members)) same
@@ -76,7 +76,7 @@ module _ (d : DistanceFunction) (h : Schedule) (q : ℕ) (opening_values_in_rang
       record {
         committed = committed;
         least = certified_is_least;
-        in_order = before_members p.updates distinct c.set faults.ascending faults.known (updates_committed_before h q) built.updates;
+        in_order = before_members p.updates distinct c.set faults.ascending faults.in_range (updates_committed_before h q) built.updates;
         smallest = smallest;
         distance_is = distance;
         import_is = refl;

@@ -1,5 +1,5 @@
-//! The results and errors of audits. The set of a certificate contains positions among the problem's updates; a finding
-//! contains the transactions themselves.
+//! The results and errors of audits. A certificate refers to an update by its index in the problem, a finding by its
+//! transaction number.
 
 ghost use Rattle.std.specs.Prelude.{◌≡◌};
 ghost use Rattle.esr_audit.specs.declared.finding.AuditError.TheVariants.{NoMemory};
@@ -11,11 +11,12 @@ use esr_history::{NoMemory, TxnId};
 use esr_order::OrderError;
 use thiserror::Error;
 
-/// The result of auditing a committed query.
+/// The result of the audit of a committed query, also if its distance is 0.
 ///
-/// A placement of the query is a serial order of the updates that committed before it, and a position in that order.
-/// Its distance is the sum, over the query's reads, of the distance between the value read and the value at that
-/// position.
+/// A placement of the query is a serialization order of the updates that committed before it, and a position in that order.
+/// The distance of a placement is the sum, over the query's reads, of the absolute difference between the value read and the
+/// value at that position, times the weight of the item. A strict query is placed after all updates that committed before it
+/// began.
 #[derive(Drop)]
 pub struct Finding {
     pub query: TxnId,
@@ -23,17 +24,17 @@ pub struct Finding {
     pub distance: u64,
     /// The amount charged to the query, which is at least the distance.
     pub import: u64,
-    /// The smallest set of updates before the position of a placement of that
-    /// distance, in commit order.
+    /// The updates ahead of the query in the nearest placement, in commit order: of the placements with the least distance, the
+    /// one with the fewest.
     pub before: Vec<TxnId>,
-    /// The problem of which the distance is the least cost.
+    /// The closure problem. The least cost of its closed sets is the distance.
     pub problem: Problem,
-    /// A closed set and a flow of equal worth, which prove the distance.
+    /// A closed set and a flow whose value is the cost of the set, so that no closed set costs less.
     pub certificate: Certificate,
 }
 
-/// The summary of a committed query: a finding without its problem and its certificate, which take the most memory, and
-/// with its updates in compressed form. The history determines all of it.
+/// The summary of the audit of a committed query: a finding without its problem and its certificate, which take the most
+/// memory, and with its updates in compressed form. The history determines all fields.
 #[derive(Drop)]
 pub struct Summary {
     pub query: TxnId,
@@ -41,26 +42,26 @@ pub struct Summary {
     pub distance: u64,
     /// The amount charged to the query, which is at least the distance.
     pub import: u64,
-    /// The smallest set of updates before the position of a placement of that
-    /// distance, in commit order.
+    /// The updates ahead of the query in the nearest placement, in commit order: of the placements with the least distance, the
+    /// one with the fewest.
     pub before: TxnList,
 }
 
-/// The result of auditing a history.
+/// The result of the audit of a whole history.
 #[derive(Drop)]
 pub struct Book {
-    /// The committed updates, in the order of their commits, which is a serial order of them.
+    /// The committed updates in commit order, which is a serialization order.
     pub order: Vec<TxnId>,
     /// The finding of each committed query, in commit order.
     pub findings: Vec<Finding>,
 }
 
-/// The result of auditing a history, as summaries.
+/// The result of the audit of a whole history, with summaries in place of findings.
 #[derive(Drop)]
 pub struct Summaries {
-    /// The committed updates, in the order of their commits, which is a serial order of them.
+    /// The committed updates in commit order, which is a serialization order.
     pub order: Vec<TxnId>,
-    /// The summary of each committed query, in the order of their commits.
+    /// The summary of each committed query, in commit order.
     pub summaries: Vec<Summary>,
 }
 
@@ -73,7 +74,7 @@ pub enum AuditError {
     /// An allocation failed.
     #[error("out of memory")]
     NoMemory = 2,
-    /// An audit has 1 to 64 workers.
+    /// The number of worker threads is not from 1 to 64.
     #[error("workers out of range")]
     WorkersOutOfRange = 3,
 }

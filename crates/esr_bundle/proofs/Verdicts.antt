@@ -12,7 +12,7 @@ use Rattle.esr_cert.specs.declared.problem.BundleFault.TheVariants.{Json, Shape,
 use Rattle.esr_bundle.specs.declared.judgement.Verdict.{Verdict}
 use Rattle.esr_bundle.specs.declared.judgement.Verdict.TheVariants.{Valid, Invalid, Bad}
 use Rattle.esr_bundle.specs.Reading.{Encodes, IsReadingOf}
-use Rattle.esr_bundle.specs.Judge.{IsVerdictOf, verdict_for}
+use Rattle.esr_bundle.specs.Judge.{IsVerdictOf, verdict_of_check}
 
 or_none : (f : Option Fault) (u : Unit {0}) → Ok u ≡ or_fault f → f ≡ None
 or_none None u h = refl
@@ -23,10 +23,10 @@ or_some None e h = cc
 or_some (Some f) e h = cc
 
 pub valid : (bytes : List ℕ) (p : Problem) (c : Certificate) (u : Unit {0}) → Encodes bytes (Ok (p, c)) → Ok u ≡ or_fault (fault p c) → IsVerdictOf bytes (Valid c.worth)
-valid bytes p c u encodes h = (Ok (p, c), encodes, ap (verdict_for c.worth) (sym (or_none (fault p c) u h)))
+valid bytes p c u encodes h = (Ok (p, c), encodes, ap (verdict_of_check c.worth) (sym (or_none (fault p c) u h)))
 
 pub invalid : (bytes : List ℕ) (p : Problem) (c : Certificate) (f : Fault) (n : ℕ) → Encodes bytes (Ok (p, c)) → Err f ≡ or_fault (fault p c) → n ≡ fault_number f → IsVerdictOf bytes (Invalid n)
-invalid bytes p c f n encodes h e = (Ok (p, c), encodes, ap (λ n. Invalid n) e ∙ ap (verdict_for c.worth) (sym (or_some (fault p c) f h)))
+invalid bytes p c f n encodes h e = (Ok (p, c), encodes, ap (λ n. Invalid n) e ∙ ap (verdict_of_check c.worth) (sym (or_some (fault p c) f h)))
 
 bad_fault : (bytes : List ℕ) (f : BundleFault) → f ≢ NoMemory → IsReadingOf bytes (Err f) → IsVerdictOf bytes (Bad (bundle_fault_number f))
 bad_fault bytes Json other h = (Err Json, h, refl)

@@ -4,7 +4,7 @@ ghost use Rattle.std.specs.Prelude.{◌≡◌, ◌≢◌, ◌⊎◌, ◌↔◌, 
 ghost use Rattle.std.specs.Io.KnownBytes.{Appends, Consumes, IsAtEnd};
 ghost use Rattle.esr_base.specs.Watch.{inner, failed};
 ghost use Rattle.esr_cert.specs.Faults.{bundle_fault_number};
-ghost use Rattle.esr_bundle.specs.Judge.{IsVerdictOf, IsJudgedBy, verdict_line};
+ghost use Rattle.esr_bundle.specs.Judge.{IsVerdictOf, IsJudgeOutcome, verdict_line};
 
 use crate::reader::from_json;
 use esr_base::Watched;
@@ -18,9 +18,9 @@ use thiserror::Error;
 pub enum Verdict {
     /// The certificate shows that this is the least cost.
     Valid(u64),
-    /// The number of the certificate's first fault.
+    /// The certificate fails the check; the number of its first fault.
     Invalid(u8),
-    /// The number of the bundle's fault.
+    /// The bytes are not a bundle; the number of the fault.
     Bad(u8),
 }
 
@@ -160,7 +160,7 @@ pub fn judge<R: Read, W: Write>(
     requires writer { failed writer.old ≡ false }
     ensures text { (input : List ℕ) → R.remaining (inner reader.old) ≡ Some input → (written : List ℕ)
         × Appends (W.contents (inner writer.old)) (W.contents (inner writer.new)) written
-        × IsJudgedBy input (R.remaining (inner reader.new)) result written }
+        × IsJudgeOutcome input (R.remaining (inner reader.new)) result written }
 
     // If a read or a write has failed, no verdict is returned.
     ensures reader { IsTrue (failed reader.new) ↔ IsErrOf result JudgeFault.Read }

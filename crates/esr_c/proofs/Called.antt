@@ -8,7 +8,7 @@ use Rattle.esr_engine.specs.Capacity.{is_full}
 use Rattle.esr_engine.specs.declared.engine.EngineError.{EngineError}
 use Rattle.esr_engine.specs.declared.engine.EngineError.TheVariants as unanswered
 use Rattle.esr_c.specs.declared.engine.Status.{Status}
-use Rattle.esr_c.specs.declared.engine.Status.TheVariants.{Done, Full, NoMemory}
+use Rattle.esr_c.specs.declared.engine.Status.TheVariants.{Done, HistoryFull, NoMemory}
 use Rattle.esr_c.specs.declared.reply.EsrReply.{EsrReply}
 use Rattle.esr_c.specs.Answers.{IsEventCall, reply_fields, status_number}
 
@@ -42,14 +42,14 @@ module _ (event : Event) (h g : Schedule) (before after : EsrReply) where
 
   pub called : (answered : Result Reply EngineError) (s : Status) → IfOk answered (λ r. r ≡ reply_to weighted h event) → IfOk answered (λ r. g ≡ extended h event r)
       → (IsErrOf answered unanswered.Full ↔ (is_full h event ≡ true)) → OnErr answered (g ≡ h)
-      → IfOk answered (λ r. (s ≡ Done) × (after ≡ reply_fields r)) → (s ≡ Full ↔ IsErrOf answered unanswered.Full)
-      → IfErr answered (λ _. ((s ≡ Full) ⊎ (s ≡ NoMemory)) × (after ≡ before)) → IsEventCall event (Some h) (Some g) before after (status_number s)
+      → IfOk answered (λ r. (s ≡ Done) × (after ≡ reply_fields r)) → (s ≡ HistoryFull ↔ IsErrOf answered unanswered.Full)
+      → IfErr answered (λ _. ((s ≡ HistoryFull) ⊎ (s ≡ NoMemory)) × (after ≡ before)) → IsEventCall event (Some h) (Some g) before after (status_number s)
   called (Ok r) s reply added full same ok reported err =
       subst (λ (k : Status). IsEventCall event (Some h) (Some g) before after (status_number k)) (sym ok.0) (call_done r reply added ok.1 (λ p. let bad_names : Ok r ≡ Err unanswered.Full = full.1 p in absurd (cc)))
   called (Err e) s reply added full same ok reported err = by_status err.0
     where
-      by_status : (s ≡ Full) ⊎ (s ≡ NoMemory) → IsEventCall event (Some h) (Some g) before after (status_number s)
+      by_status : (s ≡ HistoryFull) ⊎ (s ≡ NoMemory) → IsEventCall event (Some h) (Some g) before after (status_number s)
       by_status (inl is) = subst (λ (k : Status). IsEventCall event (Some h) (Some g) before after (status_number k)) (sym is) (call_full (full.0 (reported.0 is)) same err.1)
       by_status (inr is) =
-          let has_capacity : ¬ (is_full h event ≡ true) = λ p. let bad_names : s ≡ Full = reported.1 (full.1 p) in absurd (cc) in
+          let has_capacity : ¬ (is_full h event ≡ true) = λ p. let bad_names : s ≡ HistoryFull = reported.1 (full.1 p) in absurd (cc) in
           subst (λ (k : Status). IsEventCall event (Some h) (Some g) before after (status_number k)) (sym is) (call_refused has_capacity same err.1)

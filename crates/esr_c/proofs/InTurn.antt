@@ -13,7 +13,7 @@ use Rattle.esr_engine.specs.Capacity.{is_full}
 use Rattle.esr_c.specs.Answers.{reply_fields, status_number}
 use Rattle.esr_c.specs.Many.{AreAnswered, IsAnsweredStatus, IsEnd, IsFullFor, IsOne, after_all, after_one, event_of, events_in, none_refused_before, replies_to}
 use Rattle.esr_c.specs.declared.engine.Status.{Status}
-use Rattle.esr_c.specs.declared.engine.Status.TheVariants.{Done, Full, NoSuchEvent}
+use Rattle.esr_c.specs.declared.engine.Status.TheVariants.{Done, HistoryFull, NoSuchEvent}
 use Rattle.esr_c.specs.declared.batch.EsrEvent.{EsrEvent}
 use Rattle.esr_c.specs.declared.reply.EsrReply.{EsrReply}
 
@@ -67,8 +67,8 @@ only_unknown : (s : Status) → status_number s ≡ 8 → s ≡ NoSuchEvent
 only_unknown NoSuchEvent is = refl
 only_unknown _ is = absurd (omega arith)
 
-only_full : (s : Status) → status_number s ≡ 12 → s ≡ Full
-only_full Full is = refl
+only_full : (s : Status) → status_number s ≡ 12 → s ≡ HistoryFull
+only_full HistoryFull is = refl
 only_full _ is = absurd (omega arith)
 
 fullness : (g f : Schedule) (e : Event) → g ≡ f → is_full g e ≡ true → is_full f e ≡ true
@@ -122,7 +122,7 @@ module _ (h g : Schedule) (events : List EsrEvent) (n : ℕ) (buffer : List EsrR
 
   -- an event that is not executed
   pub ended : (stop : Bool) (s : Status) → (stop ≡ true → all_accepted (replies_to h (events_in n events)) ≡ true) → s ≢ Done
-      → (s ≡ NoSuchEvent → event_of (get_or events n d) ≡ None) → (s ≡ Full → IsFullFor g (get_or events n d)) → IsEnd h events stop n (status_number s)
+      → (s ≡ NoSuchEvent → event_of (get_or events n d) ≡ None) → (s ≡ HistoryFull → IsFullFor g (get_or events n d)) → IsEnd h events stop n (status_number s)
   ended stop s all undone unknown full = record {
     done = λ is. absurd (undone (only_done s is));
     unknown = λ is. (get_or events n d, get_at events n d within, unknown (only_unknown s is));

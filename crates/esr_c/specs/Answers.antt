@@ -39,7 +39,7 @@ use Rattle.esr_c.specs.declared.audit.EsrFinding.{EsrFinding}
 use Rattle.esr_c.specs.declared.audit.EsrTotals.{EsrTotals}
 use Rattle.esr_c.specs.declared.carrying.EsrCarried.{EsrCarried}
 use Rattle.esr_c.specs.declared.engine.Status.{Status}
-use Rattle.esr_c.specs.declared.engine.Status.TheVariants.{Done, TooManyItems, OutOfRange, NotBegun, WeightOutOfRange, BadNames, NotACommittedQuery, TooSmall, NoSuchEvent, Full, NoMemory, Closed, Open, Active}
+use Rattle.esr_c.specs.declared.engine.Status.TheVariants.{Done, TooManyItems, ValueOutOfRange, NotBegun, WeightOutOfRange, BadNames, NotACommittedQuery, TooSmall, NoSuchEvent, HistoryFull, NoMemory, IsClosed, IsOpen, TransactionActive}
 use Rattle.esr_c.specs.declared.reply.EsrReply.{EsrReply}
 use Rattle.esr_c.specs.declared.verdict.EsrVerdict.{EsrVerdict}
 
@@ -135,18 +135,18 @@ pub record IsCarriedRenewal (h : Schedule) : Type 0 where
 abbrev pub status_number : Status → ℕ
 status_number Done = 0
 status_number TooManyItems = 1
-status_number OutOfRange = 2
+status_number ValueOutOfRange = 2
 status_number NotBegun = 3
 status_number WeightOutOfRange = 4
 status_number BadNames = 5
 status_number NotACommittedQuery = 6
 status_number TooSmall = 7
 status_number NoSuchEvent = 8
-status_number Full = 12
+status_number HistoryFull = 12
 status_number NoMemory = 13
-status_number Closed = 14
-status_number Open = 15
-status_number Active = 16
+status_number IsClosed = 14
+status_number IsOpen = 15
+status_number TransactionActive = 16
 
 -- the statuses of an event
 abbrev pub IsEventStatus : ℕ → Type 0

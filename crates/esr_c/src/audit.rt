@@ -87,7 +87,7 @@ pub(crate) fn show_values(
     count: &mut usize,
 ) -> Status
     ensures statuses { IsBufferStatus (status_number result) }
-    ensures open { result ≢ Status.Closed }
+    ensures never_closed { result ≢ Status.IsClosed }
     ensures values { result ≡ Status.Done → AreValuesIn engine.now count.new values.new }
     ensures small { result ≡ Status.TooSmall → (length values.old < count.new)
         × (count.new ≡ length engine.now.opening) }
@@ -135,7 +135,7 @@ pub(crate) fn show_finding(
 ) -> Status
     ensures same { engine.new ≡ engine.old }
     ensures statuses { IsAuditStatus (status_number result) }
-    ensures open { result ≢ Status.Closed }
+    ensures never_closed { result ≢ Status.IsClosed }
     ensures not_committed_query { (result ≡ Status.NotACommittedQuery) ↔ (is_committed_query engine.old query ≡ false) }
     ensures found { result ≡ Status.Done → IsFound engine.old query finding.new before.new }
     ensures small { result ≡ Status.TooSmall → (length before.old < finding.new.count)
@@ -180,7 +180,7 @@ pub(crate) fn show_bundle(
 ) -> Status
     ensures same { engine.new ≡ engine.old }
     ensures statuses { IsAuditStatus (status_number result) }
-    ensures open { result ≢ Status.Closed }
+    ensures never_closed { result ≢ Status.IsClosed }
     ensures not_committed_query { (result ≡ Status.NotACommittedQuery) ↔ (is_committed_query engine.old query ≡ false) }
     ensures bundle { result ≡ Status.Done → IsBundleIn engine.old query count.new bytes.new }
     ensures small { result ≡ Status.TooSmall → (length bytes.old < count.new)

@@ -58,7 +58,7 @@ fn event_of(event: EsrEvent) -> Option<Event>
 fn answer_one(engine: &mut EmbeddedEngine, event: EsrEvent) -> Result<Reply, Status>
     ensures ok { IfOk result (λ reply. IsOne engine.old event engine.new reply) }
     ensures unknown { IsErrOf result Status.NoSuchEvent → event_of event ≡ None }
-    ensures full { IsErrOf result Status.Full → IsFullFor engine.old event }
+    ensures full { IsErrOf result Status.HistoryFull → IsFullFor engine.old event }
     ensures statuses { IfErr result (λ e. IsAnsweredStatus (status_number e) × (e ≢ Status.Done)) }
     ensures err { OnErr result (engine.new ≡ engine.old) }
 {
@@ -67,7 +67,7 @@ fn answer_one(engine: &mut EmbeddedEngine, event: EsrEvent) -> Result<Reply, Sta
     };
     match engine.step(event) {
         Ok(reply) => Ok(reply),
-        Err(EngineError::Full) => Err(Status::Full),
+        Err(EngineError::Full) => Err(Status::HistoryFull),
         Err(EngineError::NoMemory) => Err(Status::NoMemory),
     }
 }

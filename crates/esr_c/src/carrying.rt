@@ -52,7 +52,7 @@ pub(crate) fn renew_engine_carrying(
     count: &mut usize,
 ) -> Status
     ensures statuses { IsBufferStatus (status_number result) }
-    ensures open { result ≢ Status.Closed }
+    ensures never_closed { result ≢ Status.IsClosed }
     ensures count { count.new ≡ active_count (accepted_in engine.old) }
     ensures small { (status_number result ≡ 7) ↔ (length txns.old < active_count (accepted_in engine.old)) }
     ensures renewed { status_number result ≡ 0 → engine.new ≡ carried weighted engine.old }

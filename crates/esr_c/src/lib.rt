@@ -48,8 +48,8 @@ pub use carrying::EsrCarried;
 use carrying::renew_engine_carrying;
 pub use engine::EsrEngine;
 use engine::{
-    Status, end, open, open_engine, read, read_for_update, renew_engine, renew_engine_aborting,
-    step, take_engine, write,
+    Status, close_engine, open, read, read_for_update, renew_engine, renew_engine_aborting, step,
+    take_engine, variable_with, write,
 };
 use esr_engine::EngineCounts;
 use esr_history::{Event, TxnId};
@@ -68,12 +68,12 @@ use verdict::show_verdict;
 #[unsafe(no_mangle)]
 pub extern "C" fn esr_open(alloc: Global, engine: &mut EsrEngine, opening: &[i64]) -> u32
     ensures status { IsOpenStatus result }
-    ensures open { result ≡ 15 ↔ IsSome engine.old.held.history }
-    ensures many { result ≡ 1 ↔ (engine.old.held.history ≡ None) × (MAX_ITEMS < length opening.now) }
-    ensures range { result ≡ 2 ↔ (engine.old.held.history ≡ None) × (length opening.now ≤ MAX_ITEMS)
+    ensures is_open { result ≡ 15 ↔ IsSome engine.old.handle.history }
+    ensures too_many_items { result ≡ 1 ↔ (engine.old.handle.history ≡ None) × (MAX_ITEMS < length opening.now) }
+    ensures value_out_of_range { result ≡ 2 ↔ (engine.old.handle.history ≡ None) × (length opening.now ≤ MAX_ITEMS)
         × Any (λ v. ¬ IsValue v) opening.now }
-    ensures opened { result ≡ 0 → engine.new.held.history ≡ Some (opened opening.now []) }
-    ensures err { result ≢ 0 → engine.new.held.history ≡ engine.old.held.history }
+    ensures opened { result ≡ 0 → engine.new.handle.history ≡ Some (opened opening.now []) }
+    ensures err { result ≢ 0 → engine.new.handle.history ≡ engine.old.handle.history }
 {
     open(alloc, engine, opening, &[]).number()
 }
@@ -90,15 +90,15 @@ pub extern "C" fn esr_open_weighted(
     weights: &[u32],
 ) -> u32
     ensures status { IsWeightedOpenStatus result }
-    ensures open { result ≡ 15 ↔ IsSome engine.old.held.history }
-    ensures many { result ≡ 1 ↔ (engine.old.held.history ≡ None)
+    ensures is_open { result ≡ 15 ↔ IsSome engine.old.handle.history }
+    ensures too_many_items { result ≡ 1 ↔ (engine.old.handle.history ≡ None)
         × ((MAX_ITEMS < length opening.now) ⊎ (MAX_ITEMS < length weights.now)) }
-    ensures range { result ≡ 2 ↔ (engine.old.held.history ≡ None) × (length opening.now ≤ MAX_ITEMS)
+    ensures value_out_of_range { result ≡ 2 ↔ (engine.old.handle.history ≡ None) × (length opening.now ≤ MAX_ITEMS)
         × (length weights.now ≤ MAX_ITEMS) × Any (λ v. ¬ IsValue v) opening.now }
-    ensures weights { result ≡ 4 ↔ (engine.old.held.history ≡ None) × (length opening.now ≤ MAX_ITEMS)
+    ensures weight_out_of_range { result ≡ 4 ↔ (engine.old.handle.history ≡ None) × (length opening.now ≤ MAX_ITEMS)
         × (length weights.now ≤ MAX_ITEMS) × All IsValue opening.now × Any (λ w. ¬ IsWeight w) weights.now }
-    ensures opened { result ≡ 0 → engine.new.held.history ≡ Some (opened opening.now weights.now) }
-    ensures err { result ≢ 0 → engine.new.held.history ≡ engine.old.held.history }
+    ensures opened { result ≡ 0 → engine.new.handle.history ≡ Some (opened opening.now weights.now) }
+    ensures err { result ≢ 0 → engine.new.handle.history ≡ engine.old.handle.history }
 {
     open(alloc, engine, opening, weights).number()
 }
@@ -116,7 +116,7 @@ pub extern "C" fn esr_begin_update(
     reply: &mut EsrReply,
 ) -> u32
     ensures { IsEventCall
-        (BeginUpdate limit) engine.old.held.history engine.new.held.history reply.old reply.new result }
+        (BeginUpdate limit) engine.old.handle.history engine.new.handle.history reply.old reply.new result }
 {
     step(alloc, engine, Event::BeginUpdate { limit }, reply).number()
 }
@@ -131,7 +131,7 @@ pub extern "C" fn esr_begin_query(
     reply: &mut EsrReply,
 ) -> u32
     ensures { IsEventCall
-        (BeginQuery limit strict) engine.old.held.history engine.new.held.history reply.old reply.new result }
+        (BeginQuery limit strict) engine.old.handle.history engine.new.handle.history reply.old reply.new result }
 {
     step(alloc, engine, Event::BeginQuery { limit, strict }, reply).number()
 }
@@ -146,7 +146,7 @@ pub extern "C" fn esr_read(
     reply: &mut EsrReply,
 ) -> u32
     ensures { IsEventCall (Read (record { 0 = txn })
-        (record { 0 = item })) engine.old.held.history engine.new.held.history reply.old reply.new result }
+        (record { 0 = item })) engine.old.handle.history engine.new.handle.history reply.old reply.new result }
 {
     read(alloc, engine, TxnId(txn), ItemId(item), reply).number()
 }
@@ -162,7 +162,7 @@ pub extern "C" fn esr_write(
     reply: &mut EsrReply,
 ) -> u32
     ensures { IsEventCall (Write (record { 0 = txn })
-        (record { 0 = item }) value) engine.old.held.history engine.new.held.history reply.old reply.new result }
+        (record { 0 = item }) value) engine.old.handle.history engine.new.handle.history reply.old reply.new result }
 {
     write(alloc, engine, TxnId(txn), ItemId(item), value, reply).number()
 }
@@ -181,7 +181,7 @@ pub extern "C" fn esr_read_for_update(
     reply: &mut EsrReply,
 ) -> u32
     ensures { IsForUpdateCall (record { 0 = txn })
-        (record { 0 = item }) engine.old.held.history engine.new.held.history reply.old reply.new result }
+        (record { 0 = item }) engine.old.handle.history engine.new.handle.history reply.old reply.new result }
 {
     read_for_update(alloc, engine, TxnId(txn), ItemId(item), reply).number()
 }
@@ -195,7 +195,7 @@ pub extern "C" fn esr_commit(
     reply: &mut EsrReply,
 ) -> u32
     ensures { IsEventCall
-        (Commit (record { 0 = txn })) engine.old.held.history engine.new.held.history reply.old reply.new result }
+        (Commit (record { 0 = txn })) engine.old.handle.history engine.new.handle.history reply.old reply.new result }
 {
     step(alloc, engine, Event::Commit { txn: TxnId(txn) }, reply).number()
 }
@@ -209,7 +209,7 @@ pub extern "C" fn esr_abort(
     reply: &mut EsrReply,
 ) -> u32
     ensures { IsEventCall
-        (Abort (record { 0 = txn })) engine.old.held.history engine.new.held.history reply.old reply.new result }
+        (Abort (record { 0 = txn })) engine.old.handle.history engine.new.handle.history reply.old reply.new result }
 {
     step(alloc, engine, Event::Abort { txn: TxnId(txn) }, reply).number()
 }
@@ -230,23 +230,23 @@ pub extern "C" fn esr_do(
     count: &mut usize,
 ) -> u32
     ensures status { IsAnsweredStatus result ⊎ ((result ≡ 7) ⊎ (result ≡ 14)) }
-    ensures closed { result ≡ 14 ↔ (engine.old.held.history ≡ None) }
-    ensures small { IfSome engine.old.held.history (λ _. (result ≡ 7) ↔ (length replies.old < length events.now)) }
-    ensures untouched { (result ≡ 7) ⊎ (result ≡ 14) → (engine.new.held.history ≡ engine.old.held.history)
+    ensures closed { result ≡ 14 ↔ (engine.old.handle.history ≡ None) }
+    ensures small { IfSome engine.old.handle.history (λ _. (result ≡ 7) ↔ (length replies.old < length events.now)) }
+    ensures untouched { (result ≡ 7) ⊎ (result ≡ 14) → (engine.new.handle.history ≡ engine.old.handle.history)
         × (replies.new ≡ replies.old) × (count.new ≡ count.old) }
-    ensures answered { result ≢ 7 → IfSome engine.old.held.history (λ h. IsSomeAnd engine.new.held.history
+    ensures answered { result ≢ 7 → IfSome engine.old.handle.history (λ h. IsSomeAnd engine.new.handle.history
         (λ g. AreAnswered h g events.now count.new replies.new)) }
-    ensures end { result ≢ 7 → IfSome engine.old.held.history (λ h. IsEnd h events.now stop count.new result) }
+    ensures end { result ≢ 7 → IfSome engine.old.handle.history (λ h. IsEnd h events.now stop count.new result) }
 {
     let Some(mut inner) = take_engine(alloc, engine) else {
-        return Status::Closed.number();
+        return Status::IsClosed.number();
     };
     let status = if replies.len() < events.len() {
         Status::TooSmall
     } else {
         answer_all(&mut inner, events, replies, stop, count)
     };
-    *engine = open_engine(inner);
+    *engine = variable_with(inner);
     status.number()
 }
 
@@ -258,18 +258,18 @@ pub extern "C" fn esr_totals_of(
     engine: &mut EsrEngine,
     totals: &mut EsrTotals,
 ) -> u32
-    ensures closed { result ≡ 14 ↔ (engine.old.held.history ≡ None) }
+    ensures closed { result ≡ 14 ↔ (engine.old.handle.history ≡ None) }
     ensures done { result ≢ 14 → result ≡ 0 }
-    ensures same { engine.new.held.history ≡ engine.old.held.history }
-    ensures totals { result ≡ 0 → IfSome engine.old.held.history (IsTotal totals.new) }
-    ensures limits { result ≡ 0 → IfSome engine.old.held.history (IsWithinLimits weighted) }
+    ensures same { engine.new.handle.history ≡ engine.old.handle.history }
+    ensures totals { result ≡ 0 → IfSome engine.old.handle.history (IsTotal totals.new) }
+    ensures limits { result ≡ 0 → IfSome engine.old.handle.history (IsWithinLimits weighted) }
     ensures err { result ≢ 0 → totals.new ≡ totals.old }
 {
     let Some(inner) = take_engine(alloc, engine) else {
-        return Status::Closed.number();
+        return Status::IsClosed.number();
     };
     *totals = totals_of(&inner);
-    *engine = open_engine(inner);
+    *engine = variable_with(inner);
     Status::Done.number()
 }
 
@@ -281,18 +281,18 @@ pub extern "C" fn esr_counts_of(
     engine: &mut EsrEngine,
     counts: &mut EngineCounts,
 ) -> u32
-    ensures closed { result ≡ 14 ↔ (engine.old.held.history ≡ None) }
+    ensures closed { result ≡ 14 ↔ (engine.old.handle.history ≡ None) }
     ensures done { result ≢ 14 → result ≡ 0 }
-    ensures same { engine.new.held.history ≡ engine.old.held.history }
-    ensures counts { result ≡ 0 → IfSome engine.old.held.history (λ h. counts.new ≡ counts_of h) }
-    ensures reserved_ends { IfSome engine.old.held.history (HasReservedEnds weighted) }
+    ensures same { engine.new.handle.history ≡ engine.old.handle.history }
+    ensures counts { result ≡ 0 → IfSome engine.old.handle.history (λ h. counts.new ≡ counts_of h) }
+    ensures reserved_ends { IfSome engine.old.handle.history (HasReservedEnds weighted) }
     ensures err { result ≢ 0 → counts.new ≡ counts.old }
 {
     let Some(inner) = take_engine(alloc, engine) else {
-        return Status::Closed.number();
+        return Status::IsClosed.number();
     };
     *counts = inner.counts();
-    *engine = open_engine(inner);
+    *engine = variable_with(inner);
     Status::Done.number()
 }
 
@@ -304,18 +304,18 @@ pub extern "C" fn esr_account_of(
     txn: u32,
     account: &mut EsrAccount,
 ) -> u32
-    ensures closed { result ≡ 14 ↔ (engine.old.held.history ≡ None) }
+    ensures closed { result ≡ 14 ↔ (engine.old.handle.history ≡ None) }
     ensures statuses { (result ≡ 0) ⊎ ((result ≡ 3) ⊎ (result ≡ 14)) }
-    ensures not_begun { IfSome engine.old.held.history (λ h. (result ≡ 3) ↔ (is_begun (accepted_in h) txn ≡ false)) }
-    ensures same { engine.new.held.history ≡ engine.old.held.history }
-    ensures account { result ≡ 0 → IfSome engine.old.held.history (λ h. IsAccount h txn account.new) }
+    ensures not_begun { IfSome engine.old.handle.history (λ h. (result ≡ 3) ↔ (is_begun (accepted_in h) txn ≡ false)) }
+    ensures same { engine.new.handle.history ≡ engine.old.handle.history }
+    ensures account { result ≡ 0 → IfSome engine.old.handle.history (λ h. IsAccount h txn account.new) }
     ensures err { result ≢ 0 → account.new ≡ account.old }
 {
     let Some(inner) = take_engine(alloc, engine) else {
-        return Status::Closed.number();
+        return Status::IsClosed.number();
     };
     let status = show_account(&inner, txn, account);
-    *engine = open_engine(inner);
+    *engine = variable_with(inner);
     status.number()
 }
 
@@ -331,20 +331,20 @@ pub extern "C" fn esr_values(
     count: &mut usize,
 ) -> u32
     ensures status { IsBufferStatus result }
-    ensures closed { result ≡ 14 ↔ (engine.old.held.history ≡ None) }
-    ensures same { engine.new.held.history ≡ engine.old.held.history }
-    ensures values { result ≡ 0 → IfSome engine.old.held.history (λ h. AreValuesIn h count.new values.new) }
+    ensures closed { result ≡ 14 ↔ (engine.old.handle.history ≡ None) }
+    ensures same { engine.new.handle.history ≡ engine.old.handle.history }
+    ensures values { result ≡ 0 → IfSome engine.old.handle.history (λ h. AreValuesIn h count.new values.new) }
     ensures small { result ≡ 7 → (length values.old < count.new)
-        × IfSome engine.old.held.history (λ h. count.new ≡ length h.opening) }
+        × IfSome engine.old.handle.history (λ h. count.new ≡ length h.opening) }
     ensures kept { result ≢ 0 → values.new ≡ values.old }
     ensures rest { drop count.new values.new ≡ drop count.new values.old }
     ensures count_kept { result ≢ 0 → result ≢ 7 → count.new ≡ count.old }
 {
     let Some(inner) = take_engine(alloc, engine) else {
-        return Status::Closed.number();
+        return Status::IsClosed.number();
     };
     let status = show_values(alloc, &inner, values, count);
-    *engine = open_engine(inner);
+    *engine = variable_with(inner);
     status.number()
 }
 
@@ -361,21 +361,21 @@ pub extern "C" fn esr_audit(
     finding: &mut EsrFinding,
 ) -> u32
     ensures status { IsAuditStatus result }
-    ensures closed { result ≡ 14 ↔ (engine.old.held.history ≡ None) }
-    ensures not_committed_query { IfSome engine.old.held.history (λ h. (result ≡ 6) ↔ (is_committed_query h query ≡ false)) }
-    ensures same { engine.new.held.history ≡ engine.old.held.history }
-    ensures found { result ≡ 0 → IfSome engine.old.held.history (λ h. IsFound h query finding.new before.new) }
+    ensures closed { result ≡ 14 ↔ (engine.old.handle.history ≡ None) }
+    ensures not_committed_query { IfSome engine.old.handle.history (λ h. (result ≡ 6) ↔ (is_committed_query h query ≡ false)) }
+    ensures same { engine.new.handle.history ≡ engine.old.handle.history }
+    ensures found { result ≡ 0 → IfSome engine.old.handle.history (λ h. IsFound h query finding.new before.new) }
     ensures small { result ≡ 7 → (length before.old < finding.new.count)
-        × IfSome engine.old.held.history (λ h. IsFindingWithoutList h query finding.new) }
+        × IfSome engine.old.handle.history (λ h. IsFindingWithoutList h query finding.new) }
     ensures kept { result ≢ 0 → before.new ≡ before.old }
     ensures rest { drop finding.new.count before.new ≡ drop finding.new.count before.old }
     ensures count_kept { result ≢ 0 → result ≢ 7 → finding.new ≡ finding.old }
 {
     let Some(mut inner) = take_engine(alloc, engine) else {
-        return Status::Closed.number();
+        return Status::IsClosed.number();
     };
     let status = show_finding(alloc, &mut inner, query, before, finding);
-    *engine = open_engine(inner);
+    *engine = variable_with(inner);
     status.number()
 }
 
@@ -392,21 +392,21 @@ pub extern "C" fn esr_bundle(
     count: &mut usize,
 ) -> u32
     ensures status { IsAuditStatus result }
-    ensures closed { result ≡ 14 ↔ (engine.old.held.history ≡ None) }
-    ensures not_committed_query { IfSome engine.old.held.history (λ h. (result ≡ 6) ↔ (is_committed_query h query ≡ false)) }
-    ensures same { engine.new.held.history ≡ engine.old.held.history }
-    ensures bundle { result ≡ 0 → IfSome engine.old.held.history (λ h. IsBundleIn h query count.new bytes.new) }
+    ensures closed { result ≡ 14 ↔ (engine.old.handle.history ≡ None) }
+    ensures not_committed_query { IfSome engine.old.handle.history (λ h. (result ≡ 6) ↔ (is_committed_query h query ≡ false)) }
+    ensures same { engine.new.handle.history ≡ engine.old.handle.history }
+    ensures bundle { result ≡ 0 → IfSome engine.old.handle.history (λ h. IsBundleIn h query count.new bytes.new) }
     ensures small { result ≡ 7 → (length bytes.old < count.new)
-        × IfSome engine.old.held.history (λ h. IsBundleLong h query count.new) }
+        × IfSome engine.old.handle.history (λ h. IsBundleLong h query count.new) }
     ensures kept { result ≢ 0 → bytes.new ≡ bytes.old }
     ensures rest { drop count.new bytes.new ≡ drop count.new bytes.old }
     ensures count_kept { result ≢ 0 → result ≢ 7 → count.new ≡ count.old }
 {
     let Some(mut inner) = take_engine(alloc, engine) else {
-        return Status::Closed.number();
+        return Status::IsClosed.number();
     };
     let status = show_bundle(alloc, &mut inner, query, bytes, count);
-    *engine = open_engine(inner);
+    *engine = variable_with(inner);
     status.number()
 }
 
@@ -425,22 +425,22 @@ pub extern "C" fn esr_history_script(
     count: &mut usize,
 ) -> u32
     ensures status { IsTextStatus result }
-    ensures closed { result ≡ 14 ↔ (engine.old.held.history ≡ None) }
-    ensures same { engine.new.held.history ≡ engine.old.held.history }
-    ensures bad_names { result ≡ 5 → IfSome engine.old.held.history (λ h. parsed_item_names h names.now ≡ None) }
-    ensures script { result ≡ 0 → IfSome engine.old.held.history
+    ensures closed { result ≡ 14 ↔ (engine.old.handle.history ≡ None) }
+    ensures same { engine.new.handle.history ≡ engine.old.handle.history }
+    ensures bad_names { result ≡ 5 → IfSome engine.old.handle.history (λ h. parsed_item_names h names.now ≡ None) }
+    ensures script { result ≡ 0 → IfSome engine.old.handle.history
         (λ h. IsTextInBuffer (IsScriptOf h names.now) count.new bytes.new) }
     ensures small { result ≡ 7 → (length bytes.old < count.new)
-        × IfSome engine.old.held.history (λ h. IsTextLength (IsScriptOf h names.now) count.new) }
+        × IfSome engine.old.handle.history (λ h. IsTextLength (IsScriptOf h names.now) count.new) }
     ensures kept { result ≢ 0 → bytes.new ≡ bytes.old }
     ensures rest { drop count.new bytes.new ≡ drop count.new bytes.old }
     ensures count_kept { result ≢ 0 → result ≢ 7 → count.new ≡ count.old }
 {
     let Some(inner) = take_engine(alloc, engine) else {
-        return Status::Closed.number();
+        return Status::IsClosed.number();
     };
     let status = show_script(alloc, &inner, names, bytes, count);
-    *engine = open_engine(inner);
+    *engine = variable_with(inner);
     status.number()
 }
 
@@ -461,23 +461,23 @@ pub extern "C" fn esr_explain(
     count: &mut usize,
 ) -> u32
     ensures status { IsQueryTextStatus result }
-    ensures closed { result ≡ 14 ↔ (engine.old.held.history ≡ None) }
-    ensures not_committed_query { IfSome engine.old.held.history (λ h. (result ≡ 6) ↔ (is_committed_query h query ≡ false)) }
-    ensures same { engine.new.held.history ≡ engine.old.held.history }
-    ensures bad_names { result ≡ 5 → IfSome engine.old.held.history (λ h. parsed_item_names h names.now ≡ None) }
-    ensures explanation { result ≡ 0 → IfSome engine.old.held.history
+    ensures closed { result ≡ 14 ↔ (engine.old.handle.history ≡ None) }
+    ensures not_committed_query { IfSome engine.old.handle.history (λ h. (result ≡ 6) ↔ (is_committed_query h query ≡ false)) }
+    ensures same { engine.new.handle.history ≡ engine.old.handle.history }
+    ensures bad_names { result ≡ 5 → IfSome engine.old.handle.history (λ h. parsed_item_names h names.now ≡ None) }
+    ensures explanation { result ≡ 0 → IfSome engine.old.handle.history
         (λ h. IsTextInBuffer (IsExplanationOf h query names.now) count.new bytes.new) }
     ensures small { result ≡ 7 → (length bytes.old < count.new)
-        × IfSome engine.old.held.history (λ h. IsTextLength (IsExplanationOf h query names.now) count.new) }
+        × IfSome engine.old.handle.history (λ h. IsTextLength (IsExplanationOf h query names.now) count.new) }
     ensures kept { result ≢ 0 → bytes.new ≡ bytes.old }
     ensures rest { drop count.new bytes.new ≡ drop count.new bytes.old }
     ensures count_kept { result ≢ 0 → result ≢ 7 → count.new ≡ count.old }
 {
     let Some(mut inner) = take_engine(alloc, engine) else {
-        return Status::Closed.number();
+        return Status::IsClosed.number();
     };
     let status = show_explanation(alloc, &mut inner, query, names, bytes, count);
-    *engine = open_engine(inner);
+    *engine = variable_with(inner);
     status.number()
 }
 
@@ -492,11 +492,11 @@ pub extern "C" fn esr_picture(
     count: &mut usize,
 ) -> u32
     ensures status { IsQueryTextStatus result }
-    ensures closed { result ≡ 14 ↔ (engine.old.held.history ≡ None) }
-    ensures not_committed_query { IfSome engine.old.held.history (λ h. (result ≡ 6) ↔ (is_committed_query h query ≡ false)) }
-    ensures same { engine.new.held.history ≡ engine.old.held.history }
-    ensures bad_names { result ≡ 5 → IfSome engine.old.held.history (λ h. parsed_item_names h names.now ≡ None) }
-    ensures named { (result ≡ 0) ⊎ (result ≡ 7) → IfSome engine.old.held.history (λ h. HasNameForEachItem h names.now) }
+    ensures closed { result ≡ 14 ↔ (engine.old.handle.history ≡ None) }
+    ensures not_committed_query { IfSome engine.old.handle.history (λ h. (result ≡ 6) ↔ (is_committed_query h query ≡ false)) }
+    ensures same { engine.new.handle.history ≡ engine.old.handle.history }
+    ensures bad_names { result ≡ 5 → IfSome engine.old.handle.history (λ h. parsed_item_names h names.now ≡ None) }
+    ensures named { (result ≡ 0) ⊎ (result ≡ 7) → IfSome engine.old.handle.history (λ h. HasNameForEachItem h names.now) }
     ensures picture { result ≡ 0 → IsTextInBuffer IsSvg count.new bytes.new }
     ensures small { result ≡ 7 → (length bytes.old < count.new) × IsTextLength IsSvg count.new }
     ensures kept { result ≢ 0 → bytes.new ≡ bytes.old }
@@ -504,10 +504,10 @@ pub extern "C" fn esr_picture(
     ensures count_kept { result ≢ 0 → result ≢ 7 → count.new ≡ count.old }
 {
     let Some(mut inner) = take_engine(alloc, engine) else {
-        return Status::Closed.number();
+        return Status::IsClosed.number();
     };
     let status = show_picture(alloc, &mut inner, query, names, bytes, count);
-    *engine = open_engine(inner);
+    *engine = variable_with(inner);
     status.number()
 }
 
@@ -525,21 +525,21 @@ pub extern "C" fn esr_ledger(
     count: &mut usize,
 ) -> u32
     ensures status { IsBufferStatus result }
-    ensures closed { result ≡ 14 ↔ (engine.old.held.history ≡ None) }
-    ensures same { engine.new.held.history ≡ engine.old.held.history }
-    ensures ledger { result ≡ 0 → IfSome engine.old.held.history
+    ensures closed { result ≡ 14 ↔ (engine.old.handle.history ≡ None) }
+    ensures same { engine.new.handle.history ≡ engine.old.handle.history }
+    ensures ledger { result ≡ 0 → IfSome engine.old.handle.history
         (λ h. IsTextInBuffer (IsLedgerOf h) count.new bytes.new) }
     ensures small { result ≡ 7 → (length bytes.old < count.new)
-        × IfSome engine.old.held.history (λ h. IsTextLength (IsLedgerOf h) count.new) }
+        × IfSome engine.old.handle.history (λ h. IsTextLength (IsLedgerOf h) count.new) }
     ensures kept { result ≢ 0 → bytes.new ≡ bytes.old }
     ensures rest { drop count.new bytes.new ≡ drop count.new bytes.old }
     ensures count_kept { result ≢ 0 → result ≢ 7 → count.new ≡ count.old }
 {
     let Some(inner) = take_engine(alloc, engine) else {
-        return Status::Closed.number();
+        return Status::IsClosed.number();
     };
     let status = show_ledger(alloc, &inner, bytes, count);
-    *engine = open_engine(inner);
+    *engine = variable_with(inner);
     status.number()
 }
 
@@ -560,18 +560,18 @@ pub extern "C" fn esr_check(alloc: Global, bytes: &[u8], verdict: &mut EsrVerdic
 #[unsafe(no_mangle)]
 pub extern "C" fn esr_renew(alloc: Global, engine: &mut EsrEngine) -> u32
     ensures status { IsRenewStatus result }
-    ensures closed { result ≡ 14 ↔ (engine.old.held.history ≡ None) }
-    ensures active { IfSome engine.old.held.history (λ h. (result ≡ 16) ↔ (has_active h ≡ true)) }
-    ensures renewed { result ≡ 0 → IfSome engine.old.held.history
-        (λ h. engine.new.held.history ≡ Some (renewed h h.weights)) }
-    ensures serializable { result ≡ 0 → IfSome engine.old.held.history IsRenewed }
-    ensures err { result ≢ 0 → engine.new.held.history ≡ engine.old.held.history }
+    ensures closed { result ≡ 14 ↔ (engine.old.handle.history ≡ None) }
+    ensures active { IfSome engine.old.handle.history (λ h. (result ≡ 16) ↔ (has_active h ≡ true)) }
+    ensures renewed { result ≡ 0 → IfSome engine.old.handle.history
+        (λ h. engine.new.handle.history ≡ Some (renewed h h.weights)) }
+    ensures serializable_as_one { result ≡ 0 → IfSome engine.old.handle.history IsRenewed }
+    ensures err { result ≢ 0 → engine.new.handle.history ≡ engine.old.handle.history }
 {
     let Some(mut inner) = take_engine(alloc, engine) else {
-        return Status::Closed.number();
+        return Status::IsClosed.number();
     };
     let status = renew_engine(alloc, &mut inner);
-    *engine = open_engine(inner);
+    *engine = variable_with(inner);
     status.number()
 }
 
@@ -580,17 +580,17 @@ pub extern "C" fn esr_renew(alloc: Global, engine: &mut EsrEngine) -> u32
 #[unsafe(no_mangle)]
 pub extern "C" fn esr_renew_aborting(alloc: Global, engine: &mut EsrEngine) -> u32
     ensures status { (result ≡ 0) ⊎ ((result ≡ 13) ⊎ (result ≡ 14)) }
-    ensures closed { result ≡ 14 ↔ (engine.old.held.history ≡ None) }
-    ensures renewed { result ≡ 0 → IfSome engine.old.held.history
-        (λ h. engine.new.held.history ≡ Some (renewed h h.weights)) }
-    ensures serializable { result ≡ 0 → IfSome engine.old.held.history IsRenewed }
-    ensures err { result ≢ 0 → engine.new.held.history ≡ engine.old.held.history }
+    ensures closed { result ≡ 14 ↔ (engine.old.handle.history ≡ None) }
+    ensures renewed { result ≡ 0 → IfSome engine.old.handle.history
+        (λ h. engine.new.handle.history ≡ Some (renewed h h.weights)) }
+    ensures serializable_as_one { result ≡ 0 → IfSome engine.old.handle.history IsRenewed }
+    ensures err { result ≢ 0 → engine.new.handle.history ≡ engine.old.handle.history }
 {
     let Some(mut inner) = take_engine(alloc, engine) else {
-        return Status::Closed.number();
+        return Status::IsClosed.number();
     };
     let status = renew_engine_aborting(alloc, &mut inner);
-    *engine = open_engine(inner);
+    *engine = variable_with(inner);
     status.number()
 }
 
@@ -608,23 +608,23 @@ pub extern "C" fn esr_renew_carrying(
     count: &mut usize,
 ) -> u32
     ensures status { IsBufferStatus result }
-    ensures closed { result ≡ 14 ↔ (engine.old.held.history ≡ None) }
-    ensures count { IfSome engine.old.held.history (λ h. count.new ≡ active_count (accepted_in h)) }
-    ensures small { IfSome engine.old.held.history
+    ensures closed { result ≡ 14 ↔ (engine.old.handle.history ≡ None) }
+    ensures count { IfSome engine.old.handle.history (λ h. count.new ≡ active_count (accepted_in h)) }
+    ensures small { IfSome engine.old.handle.history
         (λ h. (result ≡ 7) ↔ (length txns.old < active_count (accepted_in h))) }
-    ensures renewed { result ≡ 0 → IfSome engine.old.held.history
-        (λ h. engine.new.held.history ≡ Some (carried weighted h)) }
-    ensures listed { result ≡ 0 → IfSome engine.old.held.history (λ h. AreCarriedIn h count.new txns.new) }
-    ensures carried { result ≡ 0 → IfSome engine.old.held.history IsCarriedRenewal }
-    ensures err { result ≢ 0 → (engine.new.held.history ≡ engine.old.held.history) × (txns.new ≡ txns.old) }
+    ensures renewed { result ≡ 0 → IfSome engine.old.handle.history
+        (λ h. engine.new.handle.history ≡ Some (carried weighted h)) }
+    ensures listed { result ≡ 0 → IfSome engine.old.handle.history (λ h. AreCarriedIn h count.new txns.new) }
+    ensures carried { result ≡ 0 → IfSome engine.old.handle.history IsCarriedRenewal }
+    ensures err { result ≢ 0 → (engine.new.handle.history ≡ engine.old.handle.history) × (txns.new ≡ txns.old) }
     ensures rest { drop count.new txns.new ≡ drop count.new txns.old }
     ensures count_kept { result ≡ 14 → count.new ≡ count.old }
 {
     let Some(mut inner) = take_engine(alloc, engine) else {
-        return Status::Closed.number();
+        return Status::IsClosed.number();
     };
     let status = renew_engine_carrying(alloc, &mut inner, txns, count);
-    *engine = open_engine(inner);
+    *engine = variable_with(inner);
     status.number()
 }
 
@@ -633,10 +633,10 @@ pub extern "C" fn esr_renew_carrying(
 /// imported.
 #[unsafe(no_mangle)]
 pub extern "C" fn esr_close(alloc: Global, engine: &mut EsrEngine)
-    ensures closed { engine.new.held.history ≡ None }
-    ensures sound { IfSome engine.old.held.history (IsSound weighted) }
+    ensures closed { engine.new.handle.history ≡ None }
+    ensures sound { IfSome engine.old.handle.history (IsSound weighted) }
 {
     if let Some(inner) = take_engine(alloc, engine) {
-        end(inner);
+        close_engine(inner);
     }
 }

@@ -69,7 +69,7 @@ pub(crate) fn show_script(
     count: &mut usize,
 ) -> Status
     ensures statuses { IsTextStatus (status_number result) }
-    ensures open { result ≢ Status.Closed }
+    ensures never_closed { result ≢ Status.IsClosed }
     ensures bad_names { result ≡ Status.BadNames → parsed_item_names engine.now names.now ≡ None }
     ensures script { result ≡ Status.Done → IsTextInBuffer (IsScriptOf engine.now names.now) count.new bytes.new }
     ensures small { result ≡ Status.TooSmall → (length bytes.old < count.new)
@@ -105,7 +105,7 @@ pub(crate) fn show_ledger(
     count: &mut usize,
 ) -> Status
     ensures statuses { IsBufferStatus (status_number result) }
-    ensures open { result ≢ Status.Closed }
+    ensures never_closed { result ≢ Status.IsClosed }
     ensures ledger { result ≡ Status.Done → IsTextInBuffer (IsLedgerOf engine.now) count.new bytes.new }
     ensures small { result ≡ Status.TooSmall → (length bytes.old < count.new)
         × IsTextLength (IsLedgerOf engine.now) count.new }

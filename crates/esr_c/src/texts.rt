@@ -123,7 +123,7 @@ pub(crate) fn show_explanation(
 ) -> Status
     ensures same { engine.new ≡ engine.old }
     ensures statuses { IsQueryTextStatus (status_number result) }
-    ensures open { result ≢ Status.Closed }
+    ensures never_closed { result ≢ Status.IsClosed }
     ensures not_committed_query { (result ≡ Status.NotACommittedQuery) ↔ (is_committed_query engine.old query ≡ false) }
     ensures bad_names { result ≡ Status.BadNames → parsed_item_names engine.old names.now ≡ None }
     ensures explanation { result ≡ Status.Done
@@ -150,7 +150,7 @@ pub(crate) fn show_picture(
 ) -> Status
     ensures same { engine.new ≡ engine.old }
     ensures statuses { IsQueryTextStatus (status_number result) }
-    ensures open { result ≢ Status.Closed }
+    ensures never_closed { result ≢ Status.IsClosed }
     ensures not_committed_query { (result ≡ Status.NotACommittedQuery) ↔ (is_committed_query engine.old query ≡ false) }
     ensures bad_names { result ≡ Status.BadNames → parsed_item_names engine.old names.now ≡ None }
     ensures named { (result ≡ Status.Done) ⊎ (result ≡ Status.TooSmall) → HasNameForEachItem engine.old names.now }

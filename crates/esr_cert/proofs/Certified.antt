@@ -29,7 +29,7 @@ matched p c h = let w : IsWithin p c = within_facts p c h in record { rows = w.r
 
 pub record IsFaultless (p : Problem) (c : Certificate) : Type 0 where
   pub ascending : is_strictly_ascending c.set ≡ true
-  pub known : is_set_in_range p c.set ≡ true
+  pub in_range : is_set_in_range p c.set ≡ true
   pub closed : is_closed p (in_set c.set) ≡ true
   pub within : is_within p c ≡ true
   pub conserved : is_conserved (network p) (amounts c) ≡ true
@@ -49,10 +49,10 @@ faultless p c h =
     let f = unless (is_conserved (network p) (amounts c)) _ _ e.1 in
     let g = unless (worth_matches p c) _ _ f.1 in
     let i = unless (is_count_in_bound p c.augmentations) _ _ g.1 in
-    record { ascending = a.0; known = b.0; closed = d.0; within = e.0; conserved = f.0; tight = g.0; short = i.0 }
+    record { ascending = a.0; in_range = b.0; closed = d.0; within = e.0; conserved = f.0; tight = g.0; short = i.0 }
 
 pub certifies_from : (p : Problem) (c : Certificate) → IsFaultless p c → Certifies p c
-certifies_from p c f = rw (f.ascending, f.known, f.closed, f.within, f.conserved, f.tight, f.short) refl
+certifies_from p c f = rw (f.ascending, f.in_range, f.closed, f.within, f.conserved, f.tight, f.short) refl
 
 pub flow_of : (p : Problem) (c : Certificate) → IsFaultless p c → IsFlow (network p) (amounts c)
 flow_of p c f = flow_facts (network p) (amounts c) (within_facts p c f.within).amounts f.conserved

@@ -1,4 +1,5 @@
-//! The rules of shape, over the numbers of a draft: lists ascend, pairs go forward, neighbours of a chain are a pair.
+//! The shape rules of a problem, over the numbers of an unchecked one (*draft*): lists ascend, each pair has its smaller position
+//! first, and consecutive writers of a chain are a pair.
 ghost use Rattle.std.specs.Prelude.{◌≡◌, map, nat_lt, true, IfOk};
 ghost use Rattle.std.specs.List.{list_all};
 ghost use Rattle.esr_cert.specs.Problem.{pair_lt, is_strictly_ascending, is_distinct, are_pairs_ascending, has_pair, are_linked, chain_has_shape, has_valid_shape};
@@ -71,7 +72,7 @@ fn has_pair(pairs: &[(u64, u64)], u: u64, v: u64) -> bool
     pairs.binary_search(&(u, v)).is_ok()
 }
 
-/// Returns whether each two neighbours are a pair.
+/// Returns whether each two consecutive writers are a pair of `before`.
 fn are_linked(before: &[(u64, u64)], writers: &[u64]) -> bool
     requires { are_pairs_ascending before.now ≡ true }
     ensures { result ≡ are_linked before.now writers.now }
@@ -84,6 +85,7 @@ fn are_linked(before: &[(u64, u64)], writers: &[u64]) -> bool
     true
 }
 
+/// Returns whether a chain has one more cost than writers, and ascending writers that are linked by pairs.
 fn chain_has_shape(before: &[(u64, u64)], chain: &ChainDraft) -> bool
     requires { are_pairs_ascending before.now ≡ true }
     ensures { result ≡ chain_has_shape before.now (drafted_chain chain.now) }
@@ -97,6 +99,7 @@ fn chain_has_shape(before: &[(u64, u64)], chain: &ChainDraft) -> bool
     are_linked(before, &chain.writers)
 }
 
+/// Returns whether all chains have their shape.
 fn chains_have_shape(before: &[(u64, u64)], chains: &[ChainDraft]) -> bool
     requires { are_pairs_ascending before.now ≡ true }
     ensures { result ≡ list_all (chain_has_shape before.now) (map drafted_chain chains.now) }
@@ -109,7 +112,7 @@ fn chains_have_shape(before: &[(u64, u64)], chains: &[ChainDraft]) -> bool
     true
 }
 
-/// Returns whether the rules of shape are satisfied.
+/// Returns whether a draft satisfies the shape rules.
 pub fn has_valid_shape(alloc: Global, draft: &ProblemDraft) -> Result<bool, AllocError>
     ensures { IfOk result (λ b. b ≡ has_valid_shape (drafted_problem draft.now)) }
 {

@@ -78,7 +78,7 @@ abbrev pub run_shape : Shape
 run_shape = built_leaf (spec.with_script (new_app (codes "run"))).top
 
 abbrev pub picture_shape : Shape
-picture_shape = built_leaf (spec.with_name (codes "picture")).top
+picture_shape = built_leaf (spec.query_command (codes "picture")).top
 
 abbrev pub certify_shape : Shape
 certify_shape = built_leaf spec.certify.top

@@ -14,7 +14,7 @@ use Rattle.clap.specs.Takes.{is_given}
 use Rattle.clap.specs.Faults.{check_fault, defaults_fault, entered_fault, fault_of, is_simple_and_free, level_fault, settle_fault, values_fault, walk_fault}
 use Rattle.clap.proofs.OnLiterals.{clap_on_literals}
 use Rattle.esr_cli.specs.Job as asked
-use Rattle.esr_cli.specs.ArgumentRules.{as_script_rule, bail_rule, file_rule, format_rule, name_rule, no_progress_rule, program, progress_rule, with_name, workers_rule, worst_rule}
+use Rattle.esr_cli.specs.ArgumentRules.{as_script_rule, bail_rule, file_rule, format_rule, name_rule, no_progress_rule, program, progress_rule, query_command, workers_rule, worst_rule}
 use Rattle.esr_cli.specs.Job.{HasWorkers, Request, RequestedCommand, flag_in, parsed_number, request_in, request_of, requested, number_option, task_in, requested_command}
 use Rattle.esr_cli.specs.declared.Job.{Job}
 use Rattle.esr_cli.proofs.Entered.{audit_shape, certify_shape, drive_shape, explain_shape, page_shape, shrink_shape}
@@ -120,7 +120,7 @@ IsServed s = (words : List Text) → level_fault s [] nothing_held words false [
     → IsSomeAnd (request_in (Some (rows_at s words))) HasItsWorkers
 
 abbrev named_shape : Text → Shape
-named_shape name = built_leaf (with_name name).top
+named_shape name = built_leaf (query_command name).top
 
 -- the rows at the end of a level, and that its last check passed
 check_none : (s : Shape) (words : List Text) → level_fault s [] nothing_held words false [] ≡ [] → check_fault s (rows_after s.rules [] words) false ≡ []

@@ -110,14 +110,14 @@ abbrev pub with_script : App → App
 with_script a = with_rule (with_rule (with_rule (with_file a) bail_rule) progress_rule) no_progress_rule
 
 -- a subcommand that shows one query of a script
-abbrev pub with_name : Text → App
-with_name name = with_script (with_rule (new_app name) name_rule)
+abbrev pub query_command : Text → App
+query_command name = with_script (with_rule (new_app name) name_rule)
 
 abbrev pub certify : App
-certify = with_rule (with_name (codes "certify")) steps_rule
+certify = with_rule (query_command (codes "certify")) steps_rule
 
 abbrev pub explain : App
-explain = with_rule (with_rule (with_name (codes "explain")) prose_rule) format_rule
+explain = with_rule (with_rule (query_command (codes "explain")) prose_rule) format_rule
 
 abbrev pub page : App
 page = with_rule (with_script (new_app (codes "page"))) worst_rule
@@ -151,24 +151,24 @@ abbrev pub trace : App
 trace = with_script (new_app (codes "trace"))
 
 abbrev pub shrink : App
-shrink = with_rule (with_name (codes "shrink")) at_least_rule
+shrink = with_rule (query_command (codes "shrink")) at_least_rule
 
-abbrev pub scripts : App
-scripts =
+abbrev pub with_script_commands : App
+with_script_commands =
     with_subcommand (with_subcommand (with_subcommand esr (with_script (new_app (codes "run"))).top) certify.top)
     check.top
 
-abbrev pub queries : App
-queries =
-    with_subcommand (with_subcommand (with_subcommand scripts explain.top) (with_name (codes "picture")).top) page.top
+abbrev pub with_query_commands : App
+with_query_commands =
+    with_subcommand (with_subcommand (with_subcommand with_script_commands explain.top) (query_command (codes "picture")).top) page.top
 
-abbrev pub tables : App
-tables = with_subcommand (with_subcommand queries ledger.top) why.top
+abbrev pub with_account_commands : App
+with_account_commands = with_subcommand (with_subcommand with_query_commands ledger.top) why.top
 
-abbrev pub cases : App
-cases = with_subcommand (with_subcommand (with_subcommand tables timeline.top) trace.top) shrink.top
+abbrev pub with_diagnosis_commands : App
+with_diagnosis_commands = with_subcommand (with_subcommand (with_subcommand with_account_commands timeline.top) trace.top) shrink.top
 
 abbrev pub program : App
 program =
-    with_subcommand (with_subcommand (with_subcommand (with_subcommand cases audit.top) drive.top) explore.top)
+    with_subcommand (with_subcommand (with_subcommand (with_subcommand with_diagnosis_commands audit.top) drive.top) explore.top)
     lint.top

@@ -7,7 +7,7 @@
 ghost use Rattle.std.specs.Prelude.{◌≡◌, IfOk, codes, false};
 ghost use Rattle.clap.specs.Words.{App, app_of, new_app, with_rule, with_subcommand, rule_of};
 ghost use Rattle.clap.specs.declared.builder.command.Command.TheViews.{out-Command};
-ghost use Rattle.esr_cli.specs.ArgumentRules.{all_rule, as_script_rule, at_least_rule, audit, bail_rule, cases, certify, check, drive, esr, explain, explore, file_rule, files_rule, format_rule, ledger, lint, name_rule, no_progress_rule, of_rule, page, program, progress_rule, prose_rule, queries, query_rule, with_file, script_rule, scripts, seeds_rule, shrink, steps_rule, tables, timeline, trace, verbose_rule, why, with_name, with_script, workers_rule, worst_by_rule, worst_rule};
+ghost use Rattle.esr_cli.specs.ArgumentRules.{all_rule, as_script_rule, at_least_rule, audit, bail_rule, with_diagnosis_commands, certify, check, drive, esr, explain, explore, file_rule, files_rule, format_rule, ledger, lint, name_rule, no_progress_rule, of_rule, page, program, progress_rule, prose_rule, with_query_commands, query_rule, with_file, script_rule, with_script_commands, seeds_rule, shrink, steps_rule, with_account_commands, timeline, trace, verbose_rule, why, query_command, with_script, workers_rule, worst_by_rule, worst_rule};
 
 use crate::{VERSION, help};
 use clap::{Arg, ArgAction, Command, value_parser};
@@ -18,12 +18,16 @@ fn plain<'a>(
     alloc: Global,
     name: &'a str,
     about: &'a str,
-    after: &'a str,
+    after_help: &'a str,
 ) -> Result<Command<'a>, AllocError>
     ensures app { IfOk result (λ c. app_of c ≡ new_app name.entry.now) }
-    ensures local { IfOk result (λ c. (out-Command c).has_globals ≡ false) }
+    ensures no_global_args { IfOk result (λ c. (out-Command c).has_globals ≡ false) }
 {
-    Ok(Command::new(alloc, name).about(about).after_help(after))
+    Ok(
+        Command::new(alloc, name)
+            .about(about)
+            .after_help(after_help),
+    )
 }
 
 /// Adds an argument to a command, if its allocation succeeded.
@@ -35,7 +39,7 @@ fn with_argument<'a>(
     requires arg { arg.global ≡ false }
     ensures app { (whole : App) → IfOk command.entry (λ c. app_of c ≡ whole)
         → IfOk result (λ c. app_of c ≡ with_rule whole (rule_of arg.entry)) }
-    ensures local { IfOk result (λ c. (out-Command c).has_globals ≡ false) }
+    ensures no_global_args { IfOk result (λ c. (out-Command c).has_globals ≡ false) }
 {
     command?.arg(arg)
 }
@@ -43,7 +47,7 @@ fn with_argument<'a>(
 /// Creates the argument `NAME`.
 fn name<'a>(alloc: Global) -> Arg<'a>
     ensures rule { rule_of result ≡ name_rule }
-    ensures local { result.global ≡ false }
+    ensures not_global { result.global ≡ false }
 {
     Arg::new(alloc, "NAME")
         .required(true)
@@ -53,7 +57,7 @@ fn name<'a>(alloc: Global) -> Arg<'a>
 /// Creates the argument `FILE`.
 fn file<'a>(alloc: Global) -> Arg<'a>
     ensures rule { rule_of result ≡ file_rule }
-    ensures local { result.global ≡ false }
+    ensures not_global { result.global ≡ false }
 {
     Arg::new(alloc, "FILE").help("Input file; standard input if - or omitted")
 }
@@ -61,7 +65,7 @@ fn file<'a>(alloc: Global) -> Arg<'a>
 /// Creates the argument `FILE..`.
 fn files<'a>(alloc: Global) -> Arg<'a>
     ensures rule { rule_of result ≡ files_rule }
-    ensures local { result.global ≡ false }
+    ensures not_global { result.global ≡ false }
 {
     Arg::new(alloc, "FILE").action(ArgAction::Append).help(
         "Input files, read in order; standard input if - or omitted",
@@ -71,7 +75,7 @@ fn files<'a>(alloc: Global) -> Arg<'a>
 /// Creates the option `--bail`.
 fn bail<'a>(alloc: Global) -> Arg<'a>
     ensures rule { rule_of result ≡ bail_rule }
-    ensures local { result.global ≡ false }
+    ensures not_global { result.global ≡ false }
 {
     Arg::new(alloc, "bail")
         .long("bail")
@@ -84,7 +88,7 @@ fn bail<'a>(alloc: Global) -> Arg<'a>
 /// Creates the option `--steps`.
 fn steps<'a>(alloc: Global) -> Arg<'a>
     ensures rule { rule_of result ≡ steps_rule }
-    ensures local { result.global ≡ false }
+    ensures not_global { result.global ≡ false }
 {
     Arg::new(alloc, "steps")
         .long("steps")
@@ -95,7 +99,7 @@ fn steps<'a>(alloc: Global) -> Arg<'a>
 /// Creates the option `--prose`.
 fn prose<'a>(alloc: Global) -> Arg<'a>
     ensures rule { rule_of result ≡ prose_rule }
-    ensures local { result.global ≡ false }
+    ensures not_global { result.global ≡ false }
 {
     Arg::new(alloc, "prose")
         .long("prose")
@@ -106,7 +110,7 @@ fn prose<'a>(alloc: Global) -> Arg<'a>
 /// Creates the option `--worst N`.
 fn worst<'a>(alloc: Global) -> Arg<'a>
     ensures rule { rule_of result ≡ worst_rule }
-    ensures local { result.global ≡ false }
+    ensures not_global { result.global ≡ false }
 {
     Arg::new(alloc, "worst")
         .long("worst")
@@ -119,7 +123,7 @@ fn worst<'a>(alloc: Global) -> Arg<'a>
 /// Creates the option `--workers W`.
 fn workers<'a>(alloc: Global) -> Arg<'a>
     ensures rule { rule_of result ≡ workers_rule }
-    ensures local { result.global ≡ false }
+    ensures not_global { result.global ≡ false }
 {
     Arg::new(alloc, "workers")
         .long("workers")
@@ -132,7 +136,7 @@ fn workers<'a>(alloc: Global) -> Arg<'a>
 /// Creates the option `--as-script`.
 fn as_script<'a>(alloc: Global) -> Arg<'a>
     ensures rule { rule_of result ≡ as_script_rule }
-    ensures local { result.global ≡ false }
+    ensures not_global { result.global ≡ false }
 {
     Arg::new(alloc, "as-script")
         .long("as-script")
@@ -143,7 +147,7 @@ fn as_script<'a>(alloc: Global) -> Arg<'a>
 /// Creates the option `--seeds N`.
 fn seeds<'a>(alloc: Global) -> Arg<'a>
     ensures rule { rule_of result ≡ seeds_rule }
-    ensures local { result.global ≡ false }
+    ensures not_global { result.global ≡ false }
 {
     Arg::new(alloc, "seeds")
         .long("seeds")
@@ -155,7 +159,7 @@ fn seeds<'a>(alloc: Global) -> Arg<'a>
 /// Creates the option `--all`.
 fn all<'a>(alloc: Global) -> Arg<'a>
     ensures rule { rule_of result ≡ all_rule }
-    ensures local { result.global ≡ false }
+    ensures not_global { result.global ≡ false }
 {
     Arg::new(alloc, "all")
         .long("all")
@@ -166,7 +170,7 @@ fn all<'a>(alloc: Global) -> Arg<'a>
 /// Creates the option `--worst MEASURE`.
 fn worst_by<'a>(alloc: Global) -> Arg<'a>
     ensures rule { rule_of result ≡ worst_by_rule }
-    ensures local { result.global ≡ false }
+    ensures not_global { result.global ≡ false }
 {
     Arg::new(alloc, "worst")
         .long("worst")
@@ -177,7 +181,7 @@ fn worst_by<'a>(alloc: Global) -> Arg<'a>
 /// Creates the option `--progress`.
 fn progress<'a>(alloc: Global) -> Arg<'a>
     ensures rule { rule_of result ≡ progress_rule }
-    ensures local { result.global ≡ false }
+    ensures not_global { result.global ≡ false }
 {
     Arg::new(alloc, "progress")
         .long("progress")
@@ -188,7 +192,7 @@ fn progress<'a>(alloc: Global) -> Arg<'a>
 /// Creates the option `--no-progress`.
 fn no_progress<'a>(alloc: Global) -> Arg<'a>
     ensures rule { rule_of result ≡ no_progress_rule }
-    ensures local { result.global ≡ false }
+    ensures not_global { result.global ≡ false }
 {
     Arg::new(alloc, "no-progress")
         .long("no-progress")
@@ -199,7 +203,7 @@ fn no_progress<'a>(alloc: Global) -> Arg<'a>
 /// Creates the option `--format FORMAT`.
 fn format<'a>(alloc: Global) -> Arg<'a>
     ensures rule { rule_of result ≡ format_rule }
-    ensures local { result.global ≡ false }
+    ensures not_global { result.global ≡ false }
 {
     Arg::new(alloc, "format")
         .long("format")
@@ -211,7 +215,7 @@ fn format<'a>(alloc: Global) -> Arg<'a>
 /// Creates the option `--script SCRIPT`.
 fn script<'a>(alloc: Global) -> Arg<'a>
     ensures rule { rule_of result ≡ script_rule }
-    ensures local { result.global ≡ false }
+    ensures not_global { result.global ≡ false }
 {
     Arg::new(alloc, "script")
         .long("script")
@@ -222,7 +226,7 @@ fn script<'a>(alloc: Global) -> Arg<'a>
 /// Creates the option `--query QUERY`.
 fn query<'a>(alloc: Global) -> Arg<'a>
     ensures rule { rule_of result ≡ query_rule }
-    ensures local { result.global ≡ false }
+    ensures not_global { result.global ≡ false }
 {
     Arg::new(alloc, "query")
         .long("query")
@@ -233,7 +237,7 @@ fn query<'a>(alloc: Global) -> Arg<'a>
 /// Creates the option `--verbose`.
 fn verbose<'a>(alloc: Global) -> Arg<'a>
     ensures rule { rule_of result ≡ verbose_rule }
-    ensures local { result.global ≡ false }
+    ensures not_global { result.global ≡ false }
 {
     Arg::new(alloc, "verbose")
         .long("verbose")
@@ -244,7 +248,7 @@ fn verbose<'a>(alloc: Global) -> Arg<'a>
 /// Creates the optional argument `NAME`.
 fn of<'a>(alloc: Global) -> Arg<'a>
     ensures rule { rule_of result ≡ of_rule }
-    ensures local { result.global ≡ false }
+    ensures not_global { result.global ≡ false }
 {
     Arg::new(alloc, "NAME").help("Name of the transaction; all transactions if omitted")
 }
@@ -252,7 +256,7 @@ fn of<'a>(alloc: Global) -> Arg<'a>
 /// `--at-least D`
 fn at_least<'a>(alloc: Global) -> Arg<'a>
     ensures rule { rule_of result ≡ at_least_rule }
-    ensures local { result.global ≡ false }
+    ensures not_global { result.global ≡ false }
 {
     Arg::new(alloc, "at-least")
         .long("at-least")
@@ -269,7 +273,7 @@ fn with_file<'a>(
     requires { IfOk command (λ c. (out-Command c).has_globals ≡ false) }
     ensures app { (whole : App) → IfOk command.entry (λ c. app_of c ≡ whole)
         → IfOk result (λ c. app_of c ≡ with_file whole) }
-    ensures local { IfOk result (λ c. (out-Command c).has_globals ≡ false) }
+    ensures no_global_args { IfOk result (λ c. (out-Command c).has_globals ≡ false) }
 {
     with_argument(command, file(alloc))
 }
@@ -282,30 +286,30 @@ fn with_script<'a>(
     requires { IfOk command (λ c. (out-Command c).has_globals ≡ false) }
     ensures app { (whole : App) → IfOk command.entry (λ c. app_of c ≡ whole)
         → IfOk result (λ c. app_of c ≡ with_script whole) }
-    ensures local { IfOk result (λ c. (out-Command c).has_globals ≡ false) }
+    ensures no_global_args { IfOk result (λ c. (out-Command c).has_globals ≡ false) }
 {
     let command = with_argument(with_file(alloc, command), bail(alloc));
     with_argument(with_argument(command, progress(alloc)), no_progress(alloc))
 }
 
-/// Creates a command that shows one query of a script.
-fn with_name<'a>(
+/// Creates a command about one query of a script, with the arguments NAME and FILE.
+fn query_command<'a>(
     alloc: Global,
-    name_of_it: &'a str,
+    command_name: &'a str,
     about: &'a str,
-    after: &'a str,
+    after_help: &'a str,
 ) -> Result<Command<'a>, AllocError>
-    ensures app { IfOk result (λ c. app_of c ≡ with_name name_of_it.entry.now) }
-    ensures local { IfOk result (λ c. (out-Command c).has_globals ≡ false) }
+    ensures app { IfOk result (λ c. app_of c ≡ query_command command_name.entry.now) }
+    ensures no_global_args { IfOk result (λ c. (out-Command c).has_globals ≡ false) }
 {
-    let command = plain(alloc, name_of_it, about, after);
+    let command = plain(alloc, command_name, about, after_help);
     with_script(alloc, with_argument(command, name(alloc)))
 }
 
 /// Creates the command `run [--bail] [FILE]`.
 fn run<'a>(alloc: Global) -> Result<Command<'a>, AllocError>
     ensures app { IfOk result (λ c. app_of c ≡ with_script (new_app (codes "run"))) }
-    ensures local { IfOk result (λ c. (out-Command c).has_globals ≡ false) }
+    ensures no_global_args { IfOk result (λ c. (out-Command c).has_globals ≡ false) }
 {
     let about = "Runs a script and prints the replies";
     with_script(alloc, plain(alloc, "run", about, help::SCRIPT))
@@ -314,11 +318,11 @@ fn run<'a>(alloc: Global) -> Result<Command<'a>, AllocError>
 /// Creates the command `certify [--bail] [--steps] NAME [FILE]`.
 fn certify<'a>(alloc: Global) -> Result<Command<'a>, AllocError>
     ensures app { IfOk result (λ c. app_of c ≡ certify) }
-    ensures local { IfOk result (λ c. (out-Command c).has_globals ≡ false) }
+    ensures no_global_args { IfOk result (λ c. (out-Command c).has_globals ≡ false) }
 {
     let about = "Runs a script and prints the audit of a query as a JSON bundle";
     with_argument(
-        with_name(alloc, "certify", about, help::CERTIFY),
+        query_command(alloc, "certify", about, help::CERTIFY),
         steps(alloc),
     )
 }
@@ -326,17 +330,17 @@ fn certify<'a>(alloc: Global) -> Result<Command<'a>, AllocError>
 /// Creates the command `explain [--bail] [--prose] [--format FORMAT] NAME [FILE]`.
 fn explain<'a>(alloc: Global) -> Result<Command<'a>, AllocError>
     ensures app { IfOk result (λ c. app_of c ≡ explain) }
-    ensures local { IfOk result (λ c. (out-Command c).has_globals ≡ false) }
+    ensures no_global_args { IfOk result (λ c. (out-Command c).has_globals ≡ false) }
 {
     let about = "Runs a script and explains the reads and charges of a query";
-    let command = with_name(alloc, "explain", about, help::EXPLAIN);
+    let command = query_command(alloc, "explain", about, help::EXPLAIN);
     with_argument(with_argument(command, prose(alloc)), format(alloc))
 }
 
 /// Creates the command `page [--bail] [--worst N] [FILE]`.
 fn page<'a>(alloc: Global) -> Result<Command<'a>, AllocError>
     ensures app { IfOk result (λ c. app_of c ≡ page) }
-    ensures local { IfOk result (λ c. (out-Command c).has_globals ≡ false) }
+    ensures no_global_args { IfOk result (λ c. (out-Command c).has_globals ≡ false) }
 {
     let about = "Runs a script and renders an HTML report of its queries";
     with_argument(
@@ -348,7 +352,7 @@ fn page<'a>(alloc: Global) -> Result<Command<'a>, AllocError>
 /// Creates the command `check [--verbose] [--script SCRIPT --query QUERY] [FILE]`.
 fn check<'a>(alloc: Global) -> Result<Command<'a>, AllocError>
     ensures app { IfOk result (λ c. app_of c ≡ check) }
-    ensures local { IfOk result (λ c. (out-Command c).has_globals ≡ false) }
+    ensures no_global_args { IfOk result (λ c. (out-Command c).has_globals ≡ false) }
 {
     let about = "Checks a bundle: valid, invalid or bad";
     let command = with_file(alloc, plain(alloc, "check", about, help::CHECK));
@@ -361,7 +365,7 @@ fn check<'a>(alloc: Global) -> Result<Command<'a>, AllocError>
 /// Creates the command `ledger [--bail] [--format FORMAT] [FILE]`.
 fn ledger<'a>(alloc: Global) -> Result<Command<'a>, AllocError>
     ensures app { IfOk result (λ c. app_of c ≡ ledger) }
-    ensures local { IfOk result (λ c. (out-Command c).has_globals ≡ false) }
+    ensures no_global_args { IfOk result (λ c. (out-Command c).has_globals ≡ false) }
 {
     let about = "Runs a script and prints one row per transaction";
     with_argument(
@@ -373,7 +377,7 @@ fn ledger<'a>(alloc: Global) -> Result<Command<'a>, AllocError>
 /// Creates the command `why [--bail] [FILE] [NAME]`.
 fn why<'a>(alloc: Global) -> Result<Command<'a>, AllocError>
     ensures app { IfOk result (λ c. app_of c ≡ why) }
-    ensures local { IfOk result (λ c. (out-Command c).has_globals ≡ false) }
+    ensures no_global_args { IfOk result (λ c. (out-Command c).has_globals ≡ false) }
 {
     let about = "Runs a script and explains why lines were blocked";
     with_argument(
@@ -385,7 +389,7 @@ fn why<'a>(alloc: Global) -> Result<Command<'a>, AllocError>
 /// `timeline [--bail] [FILE] [NAME]`
 fn timeline<'a>(alloc: Global) -> Result<Command<'a>, AllocError>
     ensures app { IfOk result (λ c. app_of c ≡ timeline) }
-    ensures local { IfOk result (λ c. (out-Command c).has_globals ≡ false) }
+    ensures no_global_args { IfOk result (λ c. (out-Command c).has_globals ≡ false) }
 {
     let about = "Runs a script and renders what happened, step by step, as an SVG picture";
     with_argument(
@@ -397,7 +401,7 @@ fn timeline<'a>(alloc: Global) -> Result<Command<'a>, AllocError>
 /// `trace [--bail] [FILE]`
 fn trace<'a>(alloc: Global) -> Result<Command<'a>, AllocError>
     ensures app { IfOk result (λ c. app_of c ≡ trace) }
-    ensures local { IfOk result (λ c. (out-Command c).has_globals ≡ false) }
+    ensures no_global_args { IfOk result (λ c. (out-Command c).has_globals ≡ false) }
 {
     let about = "Runs a script and prints its transactions and charges as trace events";
     with_script(alloc, plain(alloc, "trace", about, help::TRACE))
@@ -406,11 +410,11 @@ fn trace<'a>(alloc: Global) -> Result<Command<'a>, AllocError>
 /// `shrink [--bail] [--at-least D] NAME [FILE]`
 fn shrink<'a>(alloc: Global) -> Result<Command<'a>, AllocError>
     ensures app { IfOk result (λ c. app_of c ≡ shrink) }
-    ensures local { IfOk result (λ c. (out-Command c).has_globals ≡ false) }
+    ensures no_global_args { IfOk result (λ c. (out-Command c).has_globals ≡ false) }
 {
     let about = "Runs a script and prints a small script in which a query is still off";
     with_argument(
-        with_name(alloc, "shrink", about, help::SHRINK),
+        query_command(alloc, "shrink", about, help::SHRINK),
         at_least(alloc),
     )
 }
@@ -418,7 +422,7 @@ fn shrink<'a>(alloc: Global) -> Result<Command<'a>, AllocError>
 /// `audit [--bail] [--workers W] [--format FORMAT] [FILE]`
 fn audit<'a>(alloc: Global) -> Result<Command<'a>, AllocError>
     ensures app { IfOk result (λ c. app_of c ≡ audit) }
-    ensures local { IfOk result (λ c. (out-Command c).has_globals ≡ false) }
+    ensures no_global_args { IfOk result (λ c. (out-Command c).has_globals ≡ false) }
 {
     let about = "Runs a script and audits every committed query";
     let command = with_script(alloc, plain(alloc, "audit", about, help::AUDIT));
@@ -428,7 +432,7 @@ fn audit<'a>(alloc: Global) -> Result<Command<'a>, AllocError>
 /// Creates the command `drive [--workers W] [--as-script] [FILE]`.
 fn drive<'a>(alloc: Global) -> Result<Command<'a>, AllocError>
     ensures app { IfOk result (λ c. app_of c ≡ drive) }
-    ensures local { IfOk result (λ c. (out-Command c).has_globals ≡ false) }
+    ensures no_global_args { IfOk result (λ c. (out-Command c).has_globals ≡ false) }
 {
     let about = "Runs the sessions of a drive file, one thread each";
     let command = with_file(alloc, plain(alloc, "drive", about, help::DRIVE));
@@ -438,7 +442,7 @@ fn drive<'a>(alloc: Global) -> Result<Command<'a>, AllocError>
 /// Creates the command `explore [--seeds N | --all] [--worst MEASURE] [FILE]`.
 fn explore<'a>(alloc: Global) -> Result<Command<'a>, AllocError>
     ensures app { IfOk result (λ c. app_of c ≡ explore) }
-    ensures local { IfOk result (λ c. (out-Command c).has_globals ≡ false) }
+    ensures no_global_args { IfOk result (λ c. (out-Command c).has_globals ≡ false) }
 {
     let about = "Runs the sessions of a drive file in many interleavings";
     let command = with_file(alloc, plain(alloc, "explore", about, help::EXPLORE));
@@ -451,14 +455,14 @@ fn explore<'a>(alloc: Global) -> Result<Command<'a>, AllocError>
 /// Creates the command `lint [FILE..]`.
 fn lint<'a>(alloc: Global) -> Result<Command<'a>, AllocError>
     ensures app { IfOk result (λ c. app_of c ≡ lint) }
-    ensures local { IfOk result (λ c. (out-Command c).has_globals ≡ false) }
+    ensures no_global_args { IfOk result (λ c. (out-Command c).has_globals ≡ false) }
 {
     let about = "Lists the errors of a script, line by line";
     with_argument(plain(alloc, "lint", about, help::LINT), files(alloc))
 }
 
 /// Adds a command to a program, if its allocation succeeded.
-fn with<'a>(
+fn add_command<'a>(
     program: Command<'a>,
     command: Result<Command<'a>, AllocError>,
 ) -> Result<Command<'a>, AllocError>
@@ -470,7 +474,7 @@ fn with<'a>(
 }
 
 /// Creates the program without its commands.
-fn shell<'a>(alloc: Global) -> Command<'a>
+fn bare_program<'a>(alloc: Global) -> Command<'a>
     ensures { app_of result ≡ esr }
 {
     Command::new(alloc, "esr")
@@ -480,51 +484,51 @@ fn shell<'a>(alloc: Global) -> Command<'a>
         .subcommand_required(true)
 }
 
-/// Creates the program with the jobs that need one thread.
-fn scripts<'a>(alloc: Global) -> Result<Command<'a>, AllocError>
-    ensures { IfOk result (λ c. app_of c ≡ scripts) }
+/// Creates the program with the commands `run`, `certify` and `check`.
+fn with_script_commands<'a>(alloc: Global) -> Result<Command<'a>, AllocError>
+    ensures { IfOk result (λ c. app_of c ≡ with_script_commands) }
 {
-    let commands = with(shell(alloc), run(alloc))?;
-    let commands = with(commands, certify(alloc))?;
-    with(commands, check(alloc))
+    let commands = add_command(bare_program(alloc), run(alloc))?;
+    let commands = add_command(commands, certify(alloc))?;
+    add_command(commands, check(alloc))
 }
 
-/// Adds the jobs that show one query to a person.
-fn queries<'a>(alloc: Global) -> Result<Command<'a>, AllocError>
-    ensures { IfOk result (λ c. app_of c ≡ queries) }
+/// Adds the commands that display one query, or all on a page.
+fn with_query_commands<'a>(alloc: Global) -> Result<Command<'a>, AllocError>
+    ensures { IfOk result (λ c. app_of c ≡ with_query_commands) }
 {
     let picture = "Runs a script and renders a query as an SVG picture";
-    let commands = with(scripts(alloc)?, explain(alloc))?;
-    let commands = with(
+    let commands = add_command(with_script_commands(alloc)?, explain(alloc))?;
+    let commands = add_command(
         commands,
-        with_name(alloc, "picture", picture, help::PICTURE),
+        query_command(alloc, "picture", picture, help::PICTURE),
     )?;
-    with(commands, page(alloc))
+    add_command(commands, page(alloc))
 }
 
-/// Adds the jobs that show charges and blocked events.
-fn tables<'a>(alloc: Global) -> Result<Command<'a>, AllocError>
-    ensures { IfOk result (λ c. app_of c ≡ tables) }
+/// Adds the commands that list charges and blocked events.
+fn with_account_commands<'a>(alloc: Global) -> Result<Command<'a>, AllocError>
+    ensures { IfOk result (λ c. app_of c ≡ with_account_commands) }
 {
-    let commands = with(queries(alloc)?, ledger(alloc))?;
-    with(commands, why(alloc))
+    let commands = add_command(with_query_commands(alloc)?, ledger(alloc))?;
+    add_command(commands, why(alloc))
 }
 
-/// Adds the commands that show how a query came to be off.
-fn cases<'a>(alloc: Global) -> Result<Command<'a>, AllocError>
-    ensures { IfOk result (λ c. app_of c ≡ cases) }
+/// Adds the commands that show where the distance of a query comes from.
+fn with_diagnosis_commands<'a>(alloc: Global) -> Result<Command<'a>, AllocError>
+    ensures { IfOk result (λ c. app_of c ≡ with_diagnosis_commands) }
 {
-    let commands = with(tables(alloc)?, timeline(alloc))?;
-    let commands = with(commands, trace(alloc))?;
-    with(commands, shrink(alloc))
+    let commands = add_command(with_account_commands(alloc)?, timeline(alloc))?;
+    let commands = add_command(commands, trace(alloc))?;
+    add_command(commands, shrink(alloc))
 }
 
 /// Returns the program `esr` with all its commands, as `clap` parses them.
 pub fn program<'a>(alloc: Global) -> Result<Command<'a>, AllocError>
     ensures { IfOk result (λ c. app_of c ≡ program) }
 {
-    let commands = with(cases(alloc)?, audit(alloc))?;
-    let commands = with(commands, drive(alloc))?;
-    let commands = with(commands, explore(alloc))?;
-    with(commands, lint(alloc))
+    let commands = add_command(with_diagnosis_commands(alloc)?, audit(alloc))?;
+    let commands = add_command(commands, drive(alloc))?;
+    let commands = add_command(commands, explore(alloc))?;
+    add_command(commands, lint(alloc))
 }

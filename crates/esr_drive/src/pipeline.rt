@@ -21,7 +21,7 @@ use crate::findings::push_findings;
 use crate::form::DriveOutput;
 use crate::pieces::push_blocks;
 use esr_board::Gate;
-use esr_dump::named_script;
+use esr_dump::script_with_names;
 use esr_history::Watched;
 use esr_items::Store;
 use esr_lint::{LineOutcome, Observer};
@@ -176,7 +176,7 @@ fn script_from(
     let blocks = drive_plan.blocks.as_slice();
     let replies = driven.replies.as_slice();
     let names = begun_names(alloc, &driven.history, blocks, replies)?;
-    named_script(alloc, &drive_plan.names, &names, &driven.history)
+    script_with_names(alloc, &drive_plan.names, &names, &driven.history)
 }
 
 /// Returns the replies of the blocks, the finding of each query, and the totals.

@@ -6,10 +6,10 @@
 //! for it.
 #![tactic(auto)]
 
-mod given_names;
 mod name_tables;
 mod spelling;
+mod with_names;
 
-pub use given_names::named_script;
 pub use name_tables::{item_names, transaction_names};
 pub use spelling::script;
+pub use with_names::script_with_names;

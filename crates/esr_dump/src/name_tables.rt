@@ -5,7 +5,7 @@ ghost use Rattle.esr_base.specs.declared.limits.TheConstants.{MAX_ITEMS};
 ghost use Rattle.esr_dump.specs.Naming.{numbered, all_numbered, first_names, item_names, named, names_in, spelled, transaction_names};
 
 use esr_grammar::name;
-use esr_report::{Names, TransactionNames};
+use esr_report::{Names, NamesByPosition};
 use std::alloc::{AllocError, Global};
 
 /// Returns a word followed by a number.
@@ -87,7 +87,7 @@ pub fn item_names(alloc: Global, text: &[u8], count: u32) -> Result<Option<Names
 }
 
 /// Returns the name at a position, or the empty text if there is none.
-fn name_at<N: TransactionNames>(names: &N, position: u32) -> &str
+fn name_at<N: NamesByPosition>(names: &N, position: u32) -> &str
     ensures { result.now ≡ slice_index_or (N.names names.now) position [] }
 {
     match names.name_at(position) {
@@ -98,7 +98,7 @@ fn name_at<N: TransactionNames>(names: &N, position: u32) -> &str
 
 /// Returns the first `count` names, padded with empty texts.
 #[tactic(auto, using(crate::proofs::Names::one_more_name))]
-fn first_names<'a, N: TransactionNames>(
+fn first_names<'a, N: NamesByPosition>(
     alloc: Global,
     names: &'a N,
     count: u32,
@@ -135,8 +135,8 @@ fn names_for_lines(
     }
 }
 
-/// Returns a table of the first `count` names, with numbers instead if lines cannot contain the names.
-pub fn text_of_names<N: TransactionNames>(
+/// Returns a table of the first `count` names for a script, or of numbers if a script cannot contain the names.
+pub fn script_names<N: NamesByPosition>(
     alloc: Global,
     names: &N,
     count: u32,

@@ -53,7 +53,7 @@ impl EmbeddedEngine {
         ensures added { OnOk result (self.new ≡ after_for_update self.old t x) }
         ensures held { IfOk result (IsHeldValue self.old self.new t x) }
         ensures full { IsErrOf result EngineError.Full ↔ (no_pair self.old ≡ true) }
-        ensures kept { IsErrOf result EngineError.Full → self.new ≡ self.old }
+        ensures unchanged_if_full { IsErrOf result EngineError.Full → self.new ≡ self.old }
         ensures err { IfErr result (λ _. IsPartlyDone self.old self.new t x) }
     {
         if self.demand() + 2 > MAX_ENTRIES {

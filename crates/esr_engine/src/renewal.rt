@@ -42,7 +42,7 @@ impl EmbeddedEngine {
     /// both cases nothing has changed.
     pub fn renew(&mut self, alloc: Global) -> Result<(), RenewError>
         ensures ok { OnOk result (self.new ≡ renewed self.old self.old.weights) }
-        ensures serializable { OnOk result ((later : List Entry) → IsLegal weighted (continued self.new later)
+        ensures serializable_as_one { OnOk result ((later : List Entry) → IsLegal weighted (continued self.new later)
             → AreSerializableAsOne self.old (continued self.new later)) }
         ensures active { IsErrOf result RenewError.TransactionActive ↔ (has_active self.old ≡ true) }
         ensures err { OnErr result (self.new ≡ self.old) }
@@ -65,7 +65,7 @@ impl EmbeddedEngine {
     /// `NoMemory` if an allocation failed. Then nothing has changed, and active transactions stay active.
     pub fn renew_aborting(&mut self, alloc: Global) -> Result<(), NoMemory>
         ensures ok { OnOk result (self.new ≡ renewed self.old self.old.weights) }
-        ensures serializable { OnOk result ((later : List Entry) → IsLegal weighted (continued self.new later)
+        ensures serializable_as_one { OnOk result ((later : List Entry) → IsLegal weighted (continued self.new later)
             → AreSerializableAsOne self.old (continued self.new later)) }
         ensures err { OnErr result (self.new ≡ self.old) }
     {
@@ -81,7 +81,7 @@ impl EmbeddedEngine {
     /// Replaces this engine by a new one over the committed values.
     fn restart(&mut self, alloc: Global) -> Result<(), NoMemory>
         ensures ok { OnOk result (self.new ≡ renewed self.old self.old.weights) }
-        ensures serializable { OnOk result ((later : List Entry) → IsLegal weighted (continued self.new later)
+        ensures serializable_as_one { OnOk result ((later : List Entry) → IsLegal weighted (continued self.new later)
             → AreSerializableAsOne self.old (continued self.new later)) }
         ensures err { OnErr result (self.new ≡ self.old) }
     {
@@ -151,7 +151,7 @@ impl EmbeddedEngine {
         ensures ok { OnOk result (self.new ≡ carried weighted self.old) }
         ensures listed { IfOk result (λ v. v.items ≡ carried_in weighted self.old) }
         ensures over { OnOk result (IsCarriedOver weighted self.old self.new) }
-        ensures serializable { OnOk result ((later : List Entry) → IsLegal weighted (continued self.new later)
+        ensures serializable_as_one { OnOk result ((later : List Entry) → IsLegal weighted (continued self.new later)
             → AreSerializableAsOne self.old (continued self.new later)) }
         ensures room { OnOk result (taken self.new ≤ taken self.old) }
         ensures err { OnErr result (self.new ≡ self.old) }

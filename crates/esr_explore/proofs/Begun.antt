@@ -10,20 +10,20 @@ use Rattle.esr_explore.specs.declared.query.Query.{Query}
 use Rattle.esr_explore.specs.Queries.{BegunQuery, all_queries, begun_at, begun_query, queries_in, query_at, query_name}
 
 -- a call that begins no query
-pub none_begun : (block place : ℕ) (c : Call) (qs : List BegunQuery) → None ≡ query_name c
-    → qs ≡ qs ++ filter_map (query_at block) ((place, c) ∷ [])
-none_begun block place c qs none =
-    sym (append-nil qs) ∙ ap (λ (o : Option (List ℕ)). qs ++ cons_option (option_map (begun_at block place) o) []) none
+pub none_begun : (block index : ℕ) (c : Call) (qs : List BegunQuery) → None ≡ query_name c
+    → qs ≡ qs ++ filter_map (query_at block) ((index, c) ∷ [])
+none_begun block index c qs none =
+    sym (append-nil qs) ∙ ap (λ (o : Option (List ℕ)). qs ++ cons_option (option_map (begun_at block index) o) []) none
 
 -- a call that begins one
-pub one_begun : (block place : ℕ) (c : Call) (qs new : List Query) (q : Query) (name : List ℕ) → new ≡ qs ++ q ∷ []
-    → Some name ≡ query_name c → begun_query q ≡ begun_at block place name
-    → map begun_query new ≡ map begun_query qs ++ filter_map (query_at block) ((place, c) ∷ [])
-one_begun block place c qs new q name new_is begun is =
+pub one_begun : (block index : ℕ) (c : Call) (qs new : List Query) (q : Query) (name : List ℕ) → new ≡ qs ++ q ∷ []
+    → Some name ≡ query_name c → begun_query q ≡ begun_at block index name
+    → map begun_query new ≡ map begun_query qs ++ filter_map (query_at block) ((index, c) ∷ [])
+one_begun block index c qs new q name new_is begun is =
     ap (map begun_query) new_is ∙ map_push begun_query qs q ∙ ap (λ (b : BegunQuery). map begun_query qs ++ b ∷ []) is
-    ∙ ap (λ (o : Option (List ℕ)). map begun_query qs ++ cons_option (option_map (begun_at block place) o) []) begun
+    ∙ ap (λ (o : Option (List ℕ)). map begun_query qs ++ cons_option (option_map (begun_at block index) o) []) begun
 
--- one more element with its place
+-- one more element with its index
 enumerate_push : {X : Type 0} (n : ℕ) (xs : List X) (x : X) → enumerate_from n (xs ++ x ∷ []) ≡ enumerate_from n xs ++ (n + length xs, x) ∷ []
 enumerate_push n [] x = ap (λ (k : ℕ). (k, x) ∷ []) (omega arith)
 enumerate_push n (y ∷ xs) x =

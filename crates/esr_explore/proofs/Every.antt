@@ -23,7 +23,7 @@ in_range n b lt = (b, omega (arith, lt, length-range_with_len 0 n), get_or-range
 itself : (b : ℕ) → (b == b) ≡ true
 itself b = grind (arith, nat_tests)
 
--- before a block's turn at place k, it has had fewer turns than in the whole order
+-- before a block's turn at index k, it has had fewer turns than in the whole order
 fewer_turns : (order : List ℕ) (k : ℕ) → k < length order → turns_of (get_or order k 0) (take k order) < turns_of (get_or order k 0) order
 fewer_turns order k lt =
     let b = get_or order k 0 in

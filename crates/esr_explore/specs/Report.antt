@@ -29,7 +29,7 @@ block_line summaries block =
     count_text (codes "session ") block ++ max_and_median_text (codes " blocked") (numbers_of (Blocked block) summaries)
     ++ count_text (codes " gave up ") (runs_given_up block summaries) ++ codes "\n"
 
--- in how many runs a query committed, and its import and its distance in these; with its place among those of the file
+-- in how many runs a query committed, and its import and its distance in these; with its index among those of the file
 abbrev pub query_line : List RunSummary → ℕ × BegunQuery → List ℕ
 query_line summaries p =
     codes "query " ++ p.1.name ++ count_text (codes " committed ") (length (numbers_of (Import p.0) summaries))

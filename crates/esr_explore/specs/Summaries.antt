@@ -11,10 +11,10 @@ use Rattle.esr_explore.specs.declared.run_summary.QueryInconsistency.{QueryIncon
 use Rattle.esr_explore.specs.declared.run_summary.RunSummary.{RunSummary}
 use Rattle.esr_explore.specs.Turns.{IsRun, BlockProgressView, RunState, no_progress, is_blocked}
 
--- the number that the begin at a place of a block got
+-- the number that the begin at an index of a block got
 abbrev pub txn_id_of : List BlockProgressView → ℕ → ℕ → ℕ
-txn_id_of all_progress block place =
-    unwrap_or (option_and_then number_in (slice_get (slice_index_or all_progress block no_progress).replies place)) 0
+txn_id_of all_progress block index =
+    unwrap_or (option_and_then number_in (slice_get (slice_index_or all_progress block no_progress).replies index)) 0
 
 -- a committed query's import, and its distance as audits find it; nothing of another transaction
 abbrev pub IsInconsistency : Schedule → ℕ → Option QueryInconsistency → Type 0
@@ -24,7 +24,7 @@ IsInconsistency h number (Some inconsistencies) = (before : List ℕ) × IsAnswe
 -- query by query
 abbrev pub AreInconsistencies : Schedule → List BlockProgressView → List Query → List (Option QueryInconsistency) → Type 0
 AreInconsistencies h all_progress [] [] = Unit {0}
-AreInconsistencies h all_progress (q ∷ queries) (inconsistencies ∷ more) = IsInconsistency h (txn_id_of all_progress q.block q.place) inconsistencies × AreInconsistencies h all_progress queries more
+AreInconsistencies h all_progress (q ∷ queries) (inconsistencies ∷ more) = IsInconsistency h (txn_id_of all_progress q.block q.index) inconsistencies × AreInconsistencies h all_progress queries more
 AreInconsistencies h all_progress _ _ = ⊥
 
 -- the number of lines of a block that were given up: their last reply is that they are blocked

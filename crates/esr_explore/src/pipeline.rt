@@ -26,7 +26,7 @@ use crate::run::{Run, run_interleaving};
 use crate::run_summary::{RunSummary, summarize};
 use crate::summary::worst_run;
 use crate::ways::{ExploreFault, Ways, all_ways, line_counts};
-use esr_dump::named_script;
+use esr_dump::script_with_names;
 use esr_history::{Reply, Watched};
 use esr_plan::{DriveFault, DrivePlan, begun_names, drive_plan_of, read_all};
 use std::alloc::{AllocError, Global};
@@ -254,7 +254,7 @@ fn script_of(alloc: Global, drive_plan: &DrivePlan<'_>, run: Run) -> Result<Vec<
         drive_plan.blocks.as_slice(),
         replies.as_slice(),
     )?;
-    let text = named_script(alloc, &drive_plan.names, &names, &history)?;
+    let text = script_with_names(alloc, &drive_plan.names, &names, &history)?;
     Ok(text)
 }
 

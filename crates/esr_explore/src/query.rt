@@ -7,12 +7,12 @@ ghost use Rattle.esr_explore.specs.Queries.{all_queries, begun_query, queries_in
 use esr_plan::{BeginKind, Call};
 use std::alloc::{AllocError, Global};
 
-/// A query of a plan: its name, its block, and the place of its begin in the block.
+/// A query of a plan: its name, its block, and the index of its begin among the calls of the block.
 #[derive(Clone, Copy)]
 pub struct Query<'a> {
     pub name: &'a str,
     pub block: usize,
-    pub place: usize,
+    pub index: usize,
 }
 
 /// Returns the name of the query that a call begins, if it begins one.
@@ -29,21 +29,21 @@ fn query_name<'a>(call: &Call<'a>) -> Option<&'a str>
     }
 }
 
-/// Appends the query that the call at a place of a block begins, if it begins one.
+/// Appends the query that the call at an index of a block begins, if it begins one.
 #[tactic(auto, using(crate::proofs::Begun::none_begun, crate::proofs::Begun::one_begun))]
 fn push_begun<'a>(
     out: &mut Vec<Query<'a>>,
     block: usize,
-    place: usize,
+    index: usize,
     call: &Call<'a>,
 ) -> Result<(), AllocError>
     ensures { OnOk result (map begun_query out.new.items
-        ≡ map begun_query out.old.items ++ filter_map (query_at block) ((place, call.now) ∷ [])) }
+        ≡ map begun_query out.old.items ++ filter_map (query_at block) ((index, call.now) ∷ [])) }
 {
     let Some(name) = query_name(call) else {
         return Ok(());
     };
-    out.push(Query { name, block, place })?;
+    out.push(Query { name, block, index })?;
     Ok(())
 }
 
@@ -56,8 +56,8 @@ fn push_queries<'a>(
     ensures { OnOk result (map begun_query out.new.items
         ≡ map begun_query out.old.items ++ queries_in block calls.now) }
 {
-    for place in 0..calls.len() {
-        push_begun(out, block, place, &calls[place])?;
+    for index in 0..calls.len() {
+        push_begun(out, block, index, &calls[index])?;
     }
     Ok(())
 }

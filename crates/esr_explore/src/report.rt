@@ -96,14 +96,14 @@ fn push_query(
     alloc: Global,
     out: &mut Vec<u8>,
     summaries: &[RunSummary],
-    place: usize,
+    index: usize,
     query: Query<'_>,
 ) -> Result<(), AllocError>
     ensures { OnOk result (out.new.items
-        ≡ out.old.items ++ query_line summaries.now (place, begun_query query.entry)) }
+        ≡ out.old.items ++ query_line summaries.now (index, begun_query query.entry)) }
 {
-    let imports = column_values(alloc, summaries, Column::Import(place))?;
-    let distances = column_values(alloc, summaries, Column::Distance(place))?;
+    let imports = column_values(alloc, summaries, Column::Import(index))?;
+    let distances = column_values(alloc, summaries, Column::Distance(index))?;
     push_text(out, "query ")?;
     push_text(out, query.name)?;
     push_count(out, " committed ", imports.len() as u64)?;
@@ -123,8 +123,8 @@ pub fn push_queries(
     ensures { OnOk result (out.new.items ≡ out.old.items
         ++ flat_map (query_line summaries.now) (enumerate_from 0 (map begun_query queries.now))) }
 {
-    for place in 0..queries.len() {
-        push_query(alloc, out, summaries, place, queries[place])?;
+    for index in 0..queries.len() {
+        push_query(alloc, out, summaries, index, queries[index])?;
     }
     Ok(())
 }

@@ -36,12 +36,12 @@ pub struct RunSummary {
 
 /// Returns the id of the transaction that a query's begin created, or 0 if it was refused.
 fn txn_id_of(all_progress: &[BlockProgress], query: Query<'_>) -> TxnId
-    ensures { result.0 ≡ txn_id_of all_progress.now query.entry.block query.entry.place }
+    ensures { result.0 ≡ txn_id_of all_progress.now query.entry.block query.entry.index }
 {
     let Some(progress) = all_progress.get(query.block) else {
         return TxnId(0);
     };
-    match progress.replies().get(query.place) {
+    match progress.replies().get(query.index) {
         Some(Reply::Begun(txn_id)) => *txn_id,
         _ => TxnId(0),
     }

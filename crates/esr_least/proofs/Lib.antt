@@ -1,4 +1,4 @@
--- Why the audit of a committed query holds in longer histories.
+-- The audit of a committed query equals the summary of a finding of it, and remains correct in every extension of the history.
 
-pub mod Found
-pub mod Stays
+pub mod SummarizesFinding
+pub mod Stable

@@ -1,4 +1,4 @@
--- The audit of a query as a tuple, to compare it with the summary that the history fixes.
+-- The audit of a query as a tuple, to compare it with the summary that the history determines.
 use Rattle.std.specs.Prelude.{◌≡◌, ℕ, true, List, map}
 use Rattle.esr_history.specs.declared.event.Entry.{Entry}
 use Rattle.esr_history.specs.Legal.{continued}
@@ -9,16 +9,16 @@ use Rattle.esr_audit.specs.declared.finding.Finding.{Finding}
 use Rattle.esr_audit.specs.Findings.{IsFinding, summary, summary_of}
 use Rattle.esr_least.specs.declared.query.QueryAudit.{QueryAudit}
 
--- its query, its distance, its import, and the updates before the position
-abbrev pub audited : QueryAudit → ℕ × ℕ × ℕ × List ℕ
-audited a = (a.query.0, a.distance, a.import, map (λ t. t.0) a.before.items)
+-- the fields: the query, its distance, its import, and the updates before the nearest placement
+abbrev pub audit_fields : QueryAudit → ℕ × ℕ × ℕ × List ℕ
+audit_fields a = (a.query.0, a.distance, a.import, map (λ t. t.0) a.before.items)
 
--- in the history and in each longer one, its query has committed, and it is the audit of that query
-abbrev pub IsAuditFrom : DistanceFunction → Schedule → QueryAudit → Type 0
-IsAuditFrom d h a =
+-- in this history and in each legal extension, the query has committed, and this is its audit
+abbrev pub IsStableAudit : DistanceFunction → Schedule → QueryAudit → Type 0
+IsStableAudit d h a =
     (rest : List Entry) → IsLegal d (continued h rest)
-    → (is_committed_query (continued h rest) a.query.0 ≡ true) × (audited a ≡ summary_of d (continued h rest) a.query.0)
+    → (is_committed_query (continued h rest) a.query.0 ≡ true) × (audit_fields a ≡ summary_of d (continued h rest) a.query.0)
 
--- it says of the query what a finding of it says
+-- the audit has the fields of some finding of the query
 abbrev pub IsSummaryOfFinding : DistanceFunction → Schedule → TxnId → QueryAudit → Type 0
-IsSummaryOfFinding d h q a = (f : Finding) × (f.query ≡ q) × IsFinding d h f × (audited a ≡ summary f)
+IsSummaryOfFinding d h q a = (f : Finding) × (f.query ≡ q) × IsFinding d h f × (audit_fields a ≡ summary f)

@@ -4,7 +4,7 @@ ghost use Rattle.esr_history.specs.Queries.{is_committed_query};
 ghost use Rattle.esr_order.specs.Index.{IsWholeIndexOf};
 ghost use Rattle.esr_audit.specs.Findings.{IsFindingOf, seen_summary, summary_of};
 ghost use Rattle.esr_stream.specs.Passes.{IsLeast};
-ghost use Rattle.esr_least.specs.Audits.{audited, IsAuditFrom, IsSummaryOfFinding};
+ghost use Rattle.esr_least.specs.Audits.{audit_fields, IsStableAudit, IsSummaryOfFinding};
 
 use esr_audit::{AuditError, Finding, Summary, TxnList, audit_query_with_index};
 use esr_history::{History, TxnId};
@@ -21,12 +21,13 @@ pub struct QueryAudit {
     pub distance: u64,
     /// The import of the query: at least the distance.
     pub import: u64,
-    /// The smallest set of updates before the position of a placement of that distance, in commit order.
+    /// The updates before the nearest placement: the smallest set of updates before the position of a placement of that
+    /// distance, in commit order.
     pub before: Vec<TxnId>,
 }
 
 impl From<QueryAudit> for Summary {
-    ghost from_gives = { λ a s. seen_summary s ≡ audited a };
+    ghost from_gives = { λ a s. seen_summary s ≡ audit_fields a };
 
     fn from(audit: QueryAudit) -> Summary {
         let QueryAudit {
@@ -47,7 +48,7 @@ impl From<QueryAudit> for Summary {
 /// Returns the audit of a query with this least distance and set.
 fn of_least<M: Metric>(history: &History<M>, q: TxnId, least: Least) -> QueryAudit
     requires { IsLeast M.distance_by history.now.schedule q.0 least.distance (map (λ t. t.0) least.before.items) }
-    ensures { audited result ≡ summary_of M.distance_by history.now.schedule q.0 }
+    ensures { audit_fields result ≡ summary_of M.distance_by history.now.schedule q.0 }
 {
     QueryAudit {
         query: q,
@@ -60,7 +61,7 @@ fn of_least<M: Metric>(history: &History<M>, q: TxnId, least: Least) -> QueryAud
 /// Returns the audit of a finding, and frees its problem and its certificate.
 fn of_finding<M: Metric>(history: &History<M>, q: TxnId, finding: Finding) -> QueryAudit
     requires { IsFindingOf M.distance_by history.now.schedule q.0 finding }
-    ensures { audited result ≡ summary_of M.distance_by history.now.schedule q.0 }
+    ensures { audit_fields result ≡ summary_of M.distance_by history.now.schedule q.0 }
 {
     let Finding {
         query: _,
@@ -80,7 +81,7 @@ fn of_finding<M: Metric>(history: &History<M>, q: TxnId, finding: Finding) -> Qu
     }
 }
 
-/// Returns the audit of a query, which no later event changes. The index has read the whole history.
+/// Returns the audit of a query. Later events do not change it. The index must cover the whole history.
 ///
 /// # Errors
 ///
@@ -93,13 +94,13 @@ pub fn summarize_by_index<M: Metric>(
     q: TxnId,
 ) -> Result<QueryAudit, AuditError>
     requires { IsWholeIndexOf history.now.schedule.entries index.now }
-    ensures summary { IfOk result (λ a. audited a ≡ summary_of M.distance_by history.now.schedule q.0) }
+    ensures summary { IfOk result (λ a. audit_fields a ≡ summary_of M.distance_by history.now.schedule q.0) }
     ensures committed { IfOk result (λ a. is_committed_query history.now.schedule q.0 ≡ true) }
     ensures not_committed_query { IsErrOf result AuditError.NotACommittedQuery
         ↔ (is_committed_query history.now.schedule q.0 ≡ false) }
     ensures no_worker_error { ¬ IsErrOf result AuditError.WorkersOutOfRange }
-    ensures stable { IfOk result (IsAuditFrom M.distance_by history.now.schedule) }
-    ensures found { IfOk result (IsSummaryOfFinding M.distance_by history.now.schedule q) }
+    ensures stable { IfOk result (IsStableAudit M.distance_by history.now.schedule) }
+    ensures of_finding { IfOk result (IsSummaryOfFinding M.distance_by history.now.schedule q) }
 {
     let _invariant = history.log(); // brings the invariant into the proof
     if !is_committed_query(history, q) {

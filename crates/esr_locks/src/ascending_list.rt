@@ -1,9 +1,10 @@
-//! A list in ascending order of transaction numbers, searched by binary search.
+//! A list in ascending order of transaction numbers, searched by binary search. The caller keeps the order: it inserts at the
+//! index that `search` returns.
 //!
-//! Transactions often end in the order of their begins, so each end removes the first row of a list. In a list of more than
-//! `MAX_SHORT` rows this removal only increments the count of unused rows. Once more than half of the rows are unused, the
-//! others move to the front. So a removal of the first row moves at most one row on average, and at most half of the rows
-//! are unused. A shorter list moves its rows at each removal.
+//! Transactions often end in the order in which they began; then each end removes the first element of a list. If more
+//! than `MAX_EAGER_REMOVAL` elements are stored, this removal only increments the count of removed elements, which stay at the
+//! front. Once more than half of the stored elements are removed ones, the others move to the front. So in such a list the
+//! removal of the first element costs at most one move, amortized. Any other removal moves the elements after the removed one.
 
 ghost use Rattle.std.specs.Prelude.{◌≡◌, ℕ, ◌+◌, ◌*◌, ◌<◌, ◌≤◌, ◌==◌, [], ◌∷◌, drop, length, filter, not, IfOk, IfErr, slice_set};
 ghost use Rattle.std.specs.List.{insert, remove};
@@ -18,14 +19,14 @@ use std::alloc::{AllocError, Global};
 use std::default::MadeWith;
 use std::marker::Model;
 
-/// A list with more rows than this is long.
-const MAX_SHORT: usize = 64;
+/// The maximum number of stored elements of a list in which the removal of the first element moves the others at once.
+const MAX_EAGER_REMOVAL: usize = 64;
 
-/// A list in ascending order of transaction numbers. The first `unused` rows are removed already.
+/// A list in ascending order of transaction numbers. The first `removed` stored elements do not belong to it.
 #[derive(Drop)]
 pub struct AscendingList<R, const N: usize> {
-    rows: SmallVec<R, N>,
-    unused: usize,
+    elements: SmallVec<R, N>,
+    removed: usize,
 }
 
 impl<R, const N: usize> Model for AscendingList<R, N> {
@@ -36,73 +37,78 @@ impl<R, const N: usize> Model for AscendingList<R, N> {
 
     ghost coded = { small_vec_code R.code };
 
-    ghost view = { λ l. record { items = drop l.unused l.rows.items; capacity = l.rows.capacity - l.unused } };
+    ghost view = { λ l. record { items = drop l.removed l.elements.items; capacity = l.elements.capacity - l.removed } };
 
-    ghost invariant = { λ l. 2 * l.unused ≤ length l.rows.items };
+    ghost invariant = { λ l. 2 * l.removed ≤ length l.elements.items };
 }
 
-/// Drops the only row, if it is of the transaction.
+/// Removes the single element if it is the transaction's.
 #[inline(always)]
-fn drop_only<R: Numbered + MadeWith<Global> + Drop, const N: usize>(
-    rows: &mut SmallVec<R, N>,
+fn remove_from_singleton<R: Numbered + MadeWith<Global> + Drop, const N: usize>(
+    elements: &mut SmallVec<R, N>,
     t: TxnId,
 )
-    requires { length rows.old.items ≡ 1 }
-    ensures { rows.new.items ≡ filter (λ r. not (R.number r == t.0)) rows.old.items }
+    requires { length elements.old.items ≡ 1 }
+    ensures { elements.new.items ≡ filter (λ r. not (R.number r == t.0)) elements.old.items }
 {
-    if rows[0].number() == t.0 {
-        let _ = rows.pop();
+    if elements[0].number() == t.0 {
+        let _ = elements.pop();
     }
 }
 
-/// Inserts a row at an index. The capacity must be reserved. Most rows go to the end, so that none is moved.
+/// Inserts an element at an index. The capacity must be reserved. Most insertions are at the end and move nothing.
 #[inline(always)]
-fn put<R: MadeWith<Global> + Drop, const N: usize>(rows: &mut SmallVec<R, N>, at: usize, row: R)
-    requires place { at ≤ length rows.old.items }
-    requires spare_capacity { HasRoomFor rows.old 1 }
-    ensures { rows.new.items ≡ insert rows.old.items at row }
+fn insert_reserved<R: MadeWith<Global> + Drop, const N: usize>(
+    elements: &mut SmallVec<R, N>,
+    at: usize,
+    element: R,
+)
+    requires in_range { at ≤ length elements.old.items }
+    requires spare_capacity { HasRoomFor elements.old 1 }
+    ensures { elements.new.items ≡ insert elements.old.items at element }
 {
-    if at == rows.len() {
-        rows.push_reserved(row);
+    if at == elements.len() {
+        elements.push_reserved(element);
     } else {
-        let _ = rows.insert(at, row);
+        let _ = elements.insert(at, element);
     }
 }
 
-/// Removes the row at an index after the unused ones. Returns the number of unused rows, which counts the first row of a
-/// long list as one more.
-fn take_out<R: MadeWith<Global> + Drop, const N: usize>(
-    rows: &mut SmallVec<R, N>,
-    unused: usize,
+/// Removes the element at an index after the removed ones. If it is the first of a long list, this only increments the count
+/// of removed elements. Returns the new count.
+fn remove_lazily<R: MadeWith<Global> + Drop, const N: usize>(
+    elements: &mut SmallVec<R, N>,
+    removed: usize,
     at: usize,
 ) -> usize
-    requires { unused + at < length rows.old.items }
-    ensures items { drop result rows.new.items ≡ remove (drop unused rows.old.items) at }
-    ensures in_range { result ≤ length rows.new.items }
+    requires { removed + at < length elements.old.items }
+    ensures items { drop result elements.new.items ≡ remove (drop removed elements.old.items) at }
+    ensures in_range { result ≤ length elements.new.items }
 {
-    let len = rows.len();
-    if at == 0 && len > MAX_SHORT {
-        return unused + 1;
+    let len = elements.len();
+    if at == 0 && len > MAX_EAGER_REMOVAL {
+        return removed + 1;
     }
-    let _ = rows.remove(unused + at);
-    unused
+    let _ = elements.remove(removed + at);
+    removed
 }
 
-/// Moves the rows to the front if more than half are unused. Returns the number of unused rows.
+/// Moves the elements to the front if more than half of the stored ones are removed. Returns the new count of removed
+/// elements.
 fn compact<R: MadeWith<Global> + Copy + Drop, const N: usize>(
-    rows: &mut SmallVec<R, N>,
-    unused: usize,
+    elements: &mut SmallVec<R, N>,
+    removed: usize,
 ) -> usize
-    requires { unused ≤ length rows.old.items }
-    ensures items { drop result rows.new.items ≡ drop unused rows.old.items }
-    ensures few_unused { 2 * result ≤ length rows.new.items }
+    requires { removed ≤ length elements.old.items }
+    ensures items { drop result elements.new.items ≡ drop removed elements.old.items }
+    ensures at_most_half_removed { 2 * result ≤ length elements.new.items }
 {
-    let len = rows.len();
-    if unused <= len / 2 {
-        return unused;
+    let len = elements.len();
+    if removed <= len / 2 {
+        return removed;
     }
-    rows.as_mut_slice().copy_within(unused..len, 0);
-    rows.truncate(len - unused);
+    elements.as_mut_slice().copy_within(removed..len, 0);
+    elements.truncate(len - removed);
     0
 }
 
@@ -111,8 +117,8 @@ impl<R: MadeWith<Global> + Copy + Drop, const N: usize> AscendingList<R, N> {
         ensures { result.items ≡ [] }
     {
         AscendingList {
-            rows: SmallVec::new(alloc),
-            unused: 0,
+            elements: SmallVec::new(alloc),
+            removed: 0,
         }
     }
 
@@ -120,69 +126,69 @@ impl<R: MadeWith<Global> + Copy + Drop, const N: usize> AscendingList<R, N> {
     pub fn as_slice(&self) -> &[R]
         ensures { result.now ≡ self.now.items }
     {
-        &self.rows.as_slice()[self.unused..]
+        &self.elements.as_slice()[self.removed..]
     }
 
     #[inline(always)]
     pub fn is_empty(&self) -> bool
         ensures { result ≡ (length self.now.items == 0) }
     {
-        self.rows.is_empty()
+        self.elements.is_empty()
     }
 
-    /// Reserves capacity for one more row.
+    /// Reserves capacity for one more element.
     #[inline(always)]
     pub fn reserve(&mut self) -> Result<(), AllocError>
         ensures { Reserves self.old self.new result }
     {
-        reserve_one(&mut self.rows)
+        reserve_one(&mut self.elements)
     }
 
-    /// Inserts the first row into an empty list. The capacity must be reserved.
+    /// Inserts an element into an empty list. The capacity must be reserved.
     #[inline(always)]
-    pub fn insert_only(&mut self, row: R)
+    pub fn insert_into_empty(&mut self, element: R)
         requires empty { self.old.items ≡ [] }
         requires spare_capacity { HasRoomFor self.old 1 }
-        ensures { self.new.items ≡ row ∷ [] }
+        ensures { self.new.items ≡ element ∷ [] }
     {
-        self.rows.push_reserved(row);
+        self.elements.push_reserved(element);
     }
 
-    /// Inserts a row at an index. The capacity must be reserved.
+    /// Inserts an element at an index. The capacity must be reserved.
     #[inline(always)]
-    pub fn insert(&mut self, at: usize, row: R)
-        requires place { at ≤ length self.old.items }
+    pub fn insert(&mut self, at: usize, element: R)
+        requires in_range { at ≤ length self.old.items }
         requires spare_capacity { HasRoomFor self.old 1 }
-        ensures { self.new.items ≡ insert self.old.items at row }
+        ensures { self.new.items ≡ insert self.old.items at element }
     {
-        let _len = self.rows.len(); // bounds the sum in the proof, and is dead when it runs
-        put(&mut self.rows, self.unused + at, row);
+        let _len = self.elements.len(); // bounds the sum in the proof; the compiler removes it
+        insert_reserved(&mut self.elements, self.removed + at, element);
     }
 
-    /// Replaces the row at an index.
+    /// Replaces the element at an index.
     #[inline(always)]
-    pub fn replace(&mut self, at: usize, row: R)
+    pub fn replace(&mut self, at: usize, element: R)
         requires { at < length self.old.items }
-        ensures { self.new.items ≡ slice_set self.old.items at row }
+        ensures { self.new.items ≡ slice_set self.old.items at element }
     {
-        self.rows[self.unused + at] = row;
+        self.elements[self.removed + at] = element;
     }
 
-    /// Removes the row at an index.
+    /// Removes the element at an index.
     #[inline(always)]
     pub fn remove(&mut self, at: usize)
         requires { at < length self.old.items }
         ensures { self.new.items ≡ remove self.old.items at }
     {
-        let unused = take_out(&mut self.rows, self.unused, at);
-        self.unused = compact(&mut self.rows, unused);
+        let removed = remove_lazily(&mut self.elements, self.removed, at);
+        self.removed = compact(&mut self.elements, removed);
     }
 }
 
 impl<R: Numbered + MadeWith<Global> + Copy + Drop, const N: usize> AscendingList<R, N> {
-    /// Returns the index of a transaction's row, or else the index at which to insert it.
+    /// Returns the index of a transaction's element, or else the index at which to insert it.
     #[inline(always)]
-    pub fn place_of(&self, t: TxnId) -> Result<usize, usize>
+    pub fn search(&self, t: TxnId) -> Result<usize, usize>
         requires { IsAscendingBy R.number self.now.items }
         ensures found { IfOk result (IsPlaceOf R.number self.now.items t.0) }
         ensures absent { IfErr result (IsGapFor R.number self.now.items t.0) }
@@ -190,27 +196,27 @@ impl<R: Numbered + MadeWith<Global> + Copy + Drop, const N: usize> AscendingList
         self.as_slice().binary_search_by_key(&t.0, |r| r.number())
     }
 
-    /// Drops the row of a transaction from a list that may have others.
+    /// Removes a transaction's element from a list of any length, by binary search.
     #[inline(never)]
-    fn drop_among(&mut self, t: TxnId)
+    fn search_and_remove(&mut self, t: TxnId)
         requires { IsAscendingBy R.number self.old.items }
         ensures { self.new.items ≡ filter (λ r. not (R.number r == t.0)) self.old.items }
     {
-        if let Ok(at) = self.place_of(t) {
+        if let Ok(at) = self.search(t) {
             self.remove(at);
         }
     }
 
-    /// Drops the row of a transaction. Most lists are empty, or have no other row, and then there is nothing to search.
+    /// Removes a transaction's element, if there is one. Most lists have at most one element, and need no search.
     #[inline(always)]
-    pub fn drop_row(&mut self, t: TxnId)
+    pub fn remove_txn(&mut self, t: TxnId)
         requires { IsAscendingBy R.number self.old.items }
         ensures { self.new.items ≡ filter (λ r. not (R.number r == t.0)) self.old.items }
     {
-        match self.rows.len() {
+        match self.elements.len() {
             0 => {}
-            1 => drop_only(&mut self.rows, t),
-            _ => self.drop_among(t),
+            1 => remove_from_singleton(&mut self.elements, t),
+            _ => self.search_and_remove(t),
         }
     }
 }

@@ -204,7 +204,7 @@ impl LockEntry {
         ensures { self.new.locks ≡ released t.0 self.old.locks }
     {
         self.writer = writer_unless(self.writer, t);
-        self.readers.drop_row(t);
-        self.queries.drop_row(t);
+        self.readers.remove_txn(t);
+        self.queries.remove_txn(t);
     }
 }

@@ -93,8 +93,8 @@ fn grow<T: MadeWith<Global> + Drop, const N: usize>(
     list.reserve(1)
 }
 
-/// Reserves capacity for one more element. Full lists and lists that have moved to the heap are rare: for a list inside
-/// the row, comparing the length suffices.
+/// Reserves capacity for one more element. Full lists and lists that have moved to the heap are rare: for an inline
+/// list, comparing the length suffices.
 #[inline(always)]
 pub fn reserve_one<T: MadeWith<Global> + Drop, const N: usize>(
     list: &mut SmallVec<T, N>,
@@ -102,7 +102,7 @@ pub fn reserve_one<T: MadeWith<Global> + Drop, const N: usize>(
     ensures { Reserves list.old list.new result }
 {
     if list.len() < N {
-        let _capacity_left = list.capacity(); // N or more: brought into the proof, and dead when it runs
+        let _capacity_left = list.capacity(); // N or more: brings this into the proof; the compiler removes it
         return Ok(());
     }
     if list.len() < list.capacity() {
@@ -133,7 +133,7 @@ fn add_among(readers: &mut Readers, t: TxnId) -> bool
     ensures items { readers.new.items ≡ upserted (λ r. r.update.0) t.0 (reader t) (λ r. r) readers.old.items }
     ensures is_new { result ≡ not (list_any (λ r. r.update.0 == t.0) readers.old.items) }
 {
-    match readers.place_of(t) {
+    match readers.search(t) {
         Ok(_) => false,
         Err(at) => {
             readers.insert(at, Reader { update: t });
@@ -151,7 +151,7 @@ pub fn add_reader(readers: &mut Readers, t: TxnId) -> bool
     ensures is_new { result ≡ not (list_any (λ r. r.update.0 == t.0) readers.old.items) }
 {
     if readers.is_empty() {
-        readers.insert_only(Reader { update: t });
+        readers.insert_into_empty(Reader { update: t });
         return true;
     }
     add_among(readers, t)
@@ -167,7 +167,7 @@ pub fn count_read(queries: &mut Queries, q: TxnId) -> bool
     ensures upper_bound { AllByRecursion (λ r. r.count ≤ MAX_READS) queries.new.items }
     ensures is_new { result ≡ not (list_any (λ r. r.query.0 == q.0) queries.old.items) }
 {
-    match queries.place_of(q) {
+    match queries.search(q) {
         Ok(at) => {
             let mut reads = queries.as_slice()[at];
             reads.count += 1;

@@ -158,7 +158,8 @@ impl LockTable {
         let _ = self.by_transaction.reserve(transactions);
     }
 
-    /// Returns the update that blocks a read of the item by update `t`: another that has written it.
+    /// Returns the update that blocks a read of the item by the update `t` (another one that has written it), or `None` if `t`
+    /// may read it.
     #[inline(always)]
     pub fn may_read_update(&self, t: TxnId, x: ItemId) -> Option<TxnId>
         requires { x.0 < length self.now.locks }
@@ -167,8 +168,8 @@ impl LockTable {
         self.entries[x.0 as usize].blocking_update(t, Mode::Read)
     }
 
-    /// Returns the update with the smallest number that blocks a write of the item by `t`: another
-    /// that has read or written it.
+    /// Returns the update with the smallest number that blocks a write of the item by the update `t` (another one that has read
+    /// or written it), or `None` if `t` may write it.
     #[inline(always)]
     pub fn may_write(&self, t: TxnId, x: ItemId) -> Option<TxnId>
         requires { x.0 < length self.now.locks }
@@ -195,8 +196,8 @@ impl LockTable {
         self.entries[x.0 as usize].queries()
     }
 
-    /// Returns the items on which a transaction holds a lock. The table does not know the kind of a
-    /// transaction: an item may occur twice if it was locked both as a query's and as an update's.
+    /// Returns the items on which a transaction holds a lock. The table does not record whether a transaction is a query: an
+    /// item occurs twice if the same number has locked it both as a query and as an update.
     pub fn items_of(&self, t: TxnId) -> &[ItemId]
         ensures in_range { All (λ i. i.0 < length self.now.locks) result.now }
         ensures complete { (x : ℕ) → x < length self.now.locks → has_lock (locks_at self.now.locks x) t.0 ≡ true

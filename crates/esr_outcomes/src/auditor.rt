@@ -11,7 +11,7 @@ ghost use Rattle.esr_history.specs.Operations.{commit_order};
 ghost use Rattle.esr_history.specs.Queries.{is_committed_query};
 ghost use Rattle.esr_history.specs.Serial.{state};
 ghost use Rattle.esr_audit.specs.Findings.{IsFindingOf, summary_of};
-ghost use Rattle.esr_least.specs.Audits.{audited};
+ghost use Rattle.esr_least.specs.Audits.{audit_fields};
 ghost use Rattle.esr_outcomes.specs.Outcomes.{distance_of};
 
 use crate::values::apply_accesses;
@@ -66,7 +66,7 @@ impl<'a> Auditor<'a> {
 
     /// Returns the summary of a query's audit, or `None` unless it is a query that has committed.
     pub fn summary(&self, alloc: Global, query: TxnId) -> Result<Option<QueryAudit>, AllocError>
-        ensures summary { IfOk result (λ found. IfSome found (λ a. audited a ≡ summary_of weighted self.now query.0)) }
+        ensures summary { IfOk result (λ found. IfSome found (λ a. audit_fields a ≡ summary_of weighted self.now query.0)) }
         ensures committed { IfOk result (λ found. is_some found ≡ is_committed_query self.now query.0) }
     {
         match summarize_by_index(alloc, self.history, &self.index, query) {

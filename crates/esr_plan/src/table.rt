@@ -10,7 +10,7 @@ ghost use Rattle.esr_plan.specs.Tables.{answered, names_in, with_begun, noted};
 use crate::call::{Call, number_in};
 use esr_history::{History, Reply};
 use esr_items::Weighted;
-use esr_report::TransactionNames;
+use esr_report::NamesByPosition;
 use std::alloc::{AllocError, Global};
 
 /// The names that transactions began by, in the order of their numbers.
@@ -19,7 +19,7 @@ pub struct BegunNames<'a> {
     pub names: Vec<&'a str>,
 }
 
-impl<'a> TransactionNames for BegunNames<'a> {
+impl<'a> NamesByPosition for BegunNames<'a> {
     ghost names = { names_in };
 
     fn name_at(&self, position: u32) -> Option<&str> {

@@ -66,9 +66,9 @@ key_place k name is entries h =
     ∙ ap (λ m. cond (nat_lt at m) (Some at) None) (as_many entries)
 
 -- the position of the entry with a key is that of its name
-pub latest_is : (k : Key) (name : List ℕ) → IsKeyOf k name → (entries : List Entry) → AreKeyed entries → all_distinct (map (λ (e : Entry). e.1.bytes) entries) ≡ true
+pub cached_is : (k : Key) (name : List ℕ) → IsKeyOf k name → (entries : List Entry) → AreKeyed entries → all_distinct (map (λ (e : Entry). e.1.bytes) entries) ≡ true
     → (p : ℕ) (e : Entry) → slice_get entries p ≡ Some e → same_key e.0 k ≡ true → position_of (map (λ (x : Entry). x.1.bytes) entries) name ≡ Some p
-latest_is k name is entries h apart p e at same =
+cached_is k name is entries h apart p e at same =
     let here : get_or entries p e ≡ e = get_or_from_slice_get entries p e e at in
     let keyed : IsKeyOf e.0 e.1.bytes = subst (λ (x : Entry). IsKeyOf x.0 x.1.bytes) here (h p e (slice_get_within entries p e at)) in
     let named : slice_get (map (λ (x : Entry). x.1.bytes) entries) p ≡ Some name =

@@ -1,7 +1,7 @@
-//! A name as two numbers and its length, by which it is looked up: these are hashed and compared in a few steps,
-//! whereas its bytes would be copied and compared in pieces, depending on their number.
+//! The key of a name: two words and its length. It is hashed and compared in a few steps, whereas the bytes would be copied
+//! and compared in pieces, depending on their number.
 //!
-//! The length is not hashed: at most nine names have the same two numbers.
+//! The length is not hashed: at most nine names have the same two words.
 
 ghost use Rattle.std.specs.Prelude.{◌≡◌, ◌<◌, ◌++◌, length, slice_index_or};
 ghost use Rattle.std.specs.Hash as fed;
@@ -57,9 +57,9 @@ impl BuildHasher for SeededHash {
 }
 
 impl Key {
-    /// Returns the class of the key, one of 4,096.
+    /// Returns the slot of the key in a cache of 4,096 slots.
     #[inline(always)]
-    pub fn class(self) -> usize {
+    pub fn slot(self) -> usize {
         let mixed = self.low ^ self.high.rotate_left(32);
         (mixed.wrapping_mul(0x9e37_79b9_7f4a_7c15) >> 52) as usize
     }

@@ -10,4 +10,4 @@ pub use lines::{
     LineError, ReplyNames, audit_line, error_line, item_line, name_of_transaction, names_line,
     order_line, push_line, refusal_line, reply_line, session_line, totals_line, weighted_item_line,
 };
-pub use names::{Names, TransactionNames};
+pub use names::{Names, NamesByPosition};

@@ -8,7 +8,7 @@ ghost use Rattle.esr_report.specs.Lines.{refused, blocked, line, item_line, weig
 ghost use Rattle.esr_report.specs.Subjects.{named_by};
 ghost use Rattle.esr_report.specs.Names.{name_of_transaction};
 
-use crate::names::TransactionNames;
+use crate::names::NamesByPosition;
 use esr_history::{Refusal, Reply, TxnId};
 use std::alloc::AllocError;
 
@@ -166,7 +166,7 @@ fn wrote_line(out: &mut Vec<u8>, txn: &str, item: &str, value: i64) -> Result<()
 }
 
 /// Returns the name of a transaction, whose number is one more than its name's position.
-pub fn name_of_transaction<N: TransactionNames>(names: &N, txn: TxnId) -> &str
+pub fn name_of_transaction<N: NamesByPosition>(names: &N, txn: TxnId) -> &str
     ensures { result.now ≡ name_of_transaction (N.names names.now) txn.0 }
 {
     match names.name_at(txn.0.saturating_sub(1)) {
@@ -195,7 +195,7 @@ fn push_blocked(out: &mut Vec<u8>, number: u32, words: &str, name: &str) -> Resu
 
 /// Appends the line of a refusal. The names are those of the transactions, in the
 /// order of their numbers.
-pub fn refusal_line<N: TransactionNames>(
+pub fn refusal_line<N: NamesByPosition>(
     out: &mut Vec<u8>,
     names: &N,
     why: Refusal,
@@ -214,7 +214,7 @@ pub fn refusal_line<N: TransactionNames>(
 
 /// Appends the line of the machine's reply to an event that names the subject. The
 /// names are those of the transactions, in the order of their numbers.
-pub fn reply_line<N: TransactionNames>(
+pub fn reply_line<N: NamesByPosition>(
     out: &mut Vec<u8>,
     names: &N,
     subject: ReplyNames<'_>,
@@ -259,7 +259,7 @@ pub fn totals_line(
 }
 
 /// Appends the names of transactions separated by commas, or a minus for the empty list.
-fn push_names<N: TransactionNames>(
+fn push_names<N: NamesByPosition>(
     out: &mut Vec<u8>,
     names: &N,
     txns: &[TxnId],
@@ -280,7 +280,7 @@ fn push_names<N: TransactionNames>(
 
 /// Appends words and the names of transactions.
 #[tactic(auto, using(crate::proofs::Joins::one_separated))]
-fn push_listed<N: TransactionNames>(
+fn push_listed<N: NamesByPosition>(
     out: &mut Vec<u8>,
     first: &str,
     rest: &[&str],
@@ -298,7 +298,7 @@ fn push_listed<N: TransactionNames>(
 
 /// Appends the line of a query's finding: its distance, its import, and the updates before its position. The names
 /// are those of the transactions, in the order of their numbers.
-pub fn audit_line<N: TransactionNames>(
+pub fn audit_line<N: NamesByPosition>(
     out: &mut Vec<u8>,
     names: &N,
     txn: &str,
@@ -327,7 +327,7 @@ pub fn audit_line<N: TransactionNames>(
 
 /// Appends a line of a word and the names of transactions, separated by commas, or a minus for the empty list. The
 /// names are those of the transactions, in the order of their numbers.
-pub fn names_line<N: TransactionNames>(
+pub fn names_line<N: NamesByPosition>(
     out: &mut Vec<u8>,
     first: &str,
     names: &N,
@@ -344,7 +344,7 @@ pub fn names_line<N: TransactionNames>(
 
 /// Appends the line of the committed updates in a serial order. The names are those of the
 /// transactions, in the order of their numbers.
-pub fn order_line<N: TransactionNames>(
+pub fn order_line<N: NamesByPosition>(
     out: &mut Vec<u8>,
     names: &N,
     txns: &[TxnId],

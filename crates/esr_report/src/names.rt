@@ -1,14 +1,15 @@
-//! A table of names, in the order in which they were bound; the names are distinct.
+//! A table of distinct names, in the order in which they were bound.
 //!
-//! A name is looked up by three numbers (`key`), so that none is copied or compared byte by byte to be found; its
-//! text, of at most 16 bytes, is next to them, 48 bytes in all. A longer name, which no line can contain, does not
-//! fit, and fails like an allocation.
+//! Names are found by a key of fixed size (two machine words and the length; module `key`), so a look-up compares no bytes.
+//! An entry takes 48 bytes: the key and the name, which has at most 16 bytes. No line of a script contains a longer name;
+//! `bind` returns `AllocError` for one.
 //!
-//! Most look-ups need no hash: keys have classes, and a table keeps for each class the position of the name that was bound
-//! last. A look-up compares the key of that name first. No clause depends on these positions.
+//! Most look-ups need no search of the hash table: a direct-mapped cache, indexed by a hash of 12 bits of the key (its
+//! *slot*), has the position of the name that was bound last with that slot. The contracts do not mention the cache: a wrong
+//! or missing position only costs time.
 //!
-//! The hash of a table has a seed: otherwise a script could have 60,000 names whose hashes are equal, and each look-up
-//! would try them all.
+//! The hash has a seed. If it were known to the author of a script, the script could have 60,000 names of equal hash, and each
+//! look-up would compare them all.
 
 ghost use Rattle.std.specs.Prelude.{◌≡◌, ℕ, ◌+◌, ◌<◌, ◌≤◌, ◌^◌, List, [], ◌∷◌, ◌++◌, map, length, All, IfOk, IfSome, OnOk, OnErr, slice_get, option_map, Option, None, Some, true};
 ghost use Rattle.esr_report.specs.Names.{position_of, all_distinct};
@@ -20,9 +21,10 @@ use indexmap::IndexMap;
 use std::alloc::{AllocError, Global};
 use std::marker::Model;
 
-/// The names of transactions, in the order of their numbers.
-pub trait TransactionNames {
-    /// The names by position, which is one less than the transaction's number.
+/// Names by position: those of items (the position is the item's number) or of transactions (the position is one less than
+/// the transaction's number).
+pub trait NamesByPosition {
+    /// The names, in the order of their positions, from 0.
     ghost names: { Self → List (List ℕ) };
 
     /// Returns the name at the position.
@@ -30,8 +32,8 @@ pub trait TransactionNames {
         ensures { option_map (λ name. name.now) result ≡ slice_get (names self.now) position };
 }
 
-/// The number of classes of keys.
-const CLASSES: usize = 4096;
+/// The number of slots of the cache.
+const CACHE_SLOTS: usize = 4096;
 
 /// A name, which is stored in the table itself: it has at most 16 bytes.
 type Name = ArrayString<16>;
@@ -40,18 +42,18 @@ type Name = ArrayString<16>;
 #[derive(Drop)]
 pub struct Names {
     names: IndexMap<Key, Name, SeededHash>,
-    /// For each class of keys, the position of the name that was bound last: empty before the first, or if an
-    /// allocation failed.
-    latest: Vec<u32>,
+    /// For each slot, the position of the name that was bound last with this slot, or 0. It is empty until the first name is
+    /// bound, and as long as its allocation fails.
+    cache: Vec<u32>,
 }
 
-/// Keeps the position of a name that was bound.
-fn keep(latest: &mut Vec<u32>, class: usize, position: u32) {
-    if latest.is_empty() {
-        let _ = latest.resize(CLASSES, 0);
+/// Stores the position of a newly bound name in the cache.
+fn store_position(cache: &mut Vec<u32>, slot: usize, position: u32) {
+    if cache.is_empty() {
+        let _ = cache.resize(CACHE_SLOTS, 0);
     }
-    if class < latest.len() {
-        latest[class] = position;
+    if slot < cache.len() {
+        cache[slot] = position;
     }
 }
 
@@ -66,20 +68,20 @@ impl Model for Names {
 }
 
 impl Names {
-    /// Returns an empty table for names that no one chose to have equal hashes.
+    /// Returns an empty table. Its seed is fixed, so use it only for names that no one chose to have equal hashes.
     pub fn new(alloc: Global) -> Names
         ensures { result ≡ [] }
     {
         Names::with_seed(alloc, 0)
     }
 
-    /// Returns an empty table for names of a file, whose author does not know the seed.
+    /// Returns an empty table, for names from a file whose author cannot know the seed.
     pub fn with_seed(alloc: Global, seed: u64) -> Names
         ensures { result ≡ [] }
     {
         Names {
             names: IndexMap::with_hasher(alloc, SeededHash::new(seed)),
-            latest: Vec::new(alloc),
+            cache: Vec::new(alloc),
         }
     }
 
@@ -92,14 +94,18 @@ impl Names {
         self.names.len()
     }
 
-    /// Returns the position of the name with this key, if it is the last one of its class.
+    /// Returns the position of the name with this key, if the cache has it.
     #[inline(always)]
-    fn latest_of(&self, key: Key) -> Option<u32>
+    fn cached_position(&self, key: Key) -> Option<u32>
         ensures { (name : List ℕ) → IsKeyOf key name → IfSome result (λ p. position_of self.now name ≡ Some p) }
     {
-        let position = *self.latest.get(key.class())?;
-        let (found, _) = self.names.get_index(position as usize)?;
-        if *found == key { Some(position) } else { None }
+        let position = *self.cache.get(key.slot())?;
+        let (found_key, _) = self.names.get_index(position as usize)?;
+        if *found_key == key {
+            Some(position)
+        } else {
+            None
+        }
     }
 
     /// Returns the position of the name with this key, if it is bound.
@@ -113,7 +119,7 @@ impl Names {
         }
     }
 
-    /// Returns the position of the name, if it is bound.
+    /// Returns the position of the name, from 0, if it is bound.
     #[inline(always)]
     pub fn number_of(&self, name: &str) -> Option<u32>
         ensures { result ≡ position_of self.now name.now }
@@ -123,32 +129,32 @@ impl Names {
             return None;
         }
         let key = key_of(name);
-        match self.latest_of(key) {
+        match self.cached_position(key) {
             Some(position) => Some(position),
             None => self.search(key),
         }
     }
 
     /// Returns the name at the position.
-    pub fn name_of(&self, number: u32) -> Option<&str>
-        ensures { option_map (λ name. name.now) result ≡ slice_get self.now number }
+    pub fn name_of(&self, position: u32) -> Option<&str>
+        ensures { option_map (λ name. name.now) result ≡ slice_get self.now position }
     {
-        match self.names.get_index(number as usize) {
+        match self.names.get_index(position as usize) {
             Some((_, name)) => Some(name.as_str()),
             None => None,
         }
     }
 
-    /// Binds the name to the next position.
+    /// Binds the name to the next position, and returns the position.
     ///
     /// # Errors
     /// If an allocation fails, or the name has more than 16 bytes: no line contains such a name, and the table cannot
     /// hold it. Then nothing has changed.
     pub fn bind(&mut self, name: &str) -> Result<u32, AllocError>
         requires unbound { position_of self.old name.now ≡ None }
-        requires fits { length self.old < 2 ^ 32 }
-        ensures number { IfOk result (λ n. n ≡ length self.old) }
-        ensures bound { OnOk result (self.new ≡ self.old ++ name.now ∷ []) }
+        requires count_within_max { length self.old < 2 ^ 32 }
+        ensures position { IfOk result (λ n. n ≡ length self.old) }
+        ensures appended { OnOk result (self.new ≡ self.old ++ name.now ∷ []) }
         ensures err { OnErr result (self.new ≡ self.old) }
     {
         let position = self.names.len();
@@ -157,12 +163,12 @@ impl Names {
         };
         let key = key_of(name);
         self.names.insert(key, text)?;
-        keep(&mut self.latest, key.class(), position as u32);
+        store_position(&mut self.cache, key.slot(), position as u32);
         Ok(position as u32)
     }
 }
 
-impl TransactionNames for Names {
+impl NamesByPosition for Names {
     ghost names = { λ names. names };
 
     fn name_at(&self, position: u32) -> Option<&str> {

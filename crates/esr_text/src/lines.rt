@@ -1,9 +1,8 @@
-//! Sentences on lines of a width.
+//! Wraps sentences to a line width.
 
 use std::alloc::{AllocError, Global};
 
-/// Adds a sentence, on as many lines as it needs: a line ends at a blank, and has fewer characters than `width`,
-/// unless a single word has more.
+/// Appends a sentence to `lines`, wrapped at blanks. Each line has at most `width` bytes, unless a single word has more.
 pub fn wrap(
     alloc: Global,
     lines: &mut Vec<String>,
@@ -12,8 +11,8 @@ pub fn wrap(
 ) -> Result<(), AllocError> {
     let mut line = String::new(alloc);
     for word in sentence.split(' ') {
-        let length = line.len().saturating_add(word.len());
-        if !line.is_empty() && length >= width {
+        let joined_len = line.len().saturating_add(1).saturating_add(word.len());
+        if !line.is_empty() && joined_len > width {
             lines.push(line)?;
             line = String::new(alloc);
         }

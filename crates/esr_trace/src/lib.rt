@@ -8,7 +8,7 @@
 mod part;
 mod sentences;
 mod subject;
-mod sums;
+mod sum_errors;
 mod text;
 mod trace;
 mod traces;
@@ -16,7 +16,7 @@ mod traces;
 pub use part::Part;
 pub use sentences::{push_nearest_moment, push_strict, push_verdict, sentences_of};
 pub use subject::Audited;
-pub use sums::sum_error;
+pub use sum_errors::sum_error;
 pub use text::{MAX_NAMES, outcome_words, push_names, push_rest};
 pub use trace::{Cause, ChargeGroup, ObservedRead, QueryTrace, Sum, WriterEnd};
 pub use traces::{trace_of, traces_of};

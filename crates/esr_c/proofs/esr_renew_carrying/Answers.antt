@@ -7,8 +7,8 @@ use Rattle.esr_c.proofs.esr_renew_carrying.Goals as goal
 
 pub returns-clause-renewed : goal.returns-clause-renewed
 returns-clause-renewed c done =
-    subst (λ (old : Option Schedule). IfSome old (λ h. c.open_engine.result.held.history ≡ Some (carried weighted h))) (sym c.in-Some.ensures.engine)
-    (c.open_engine.ensures ∙ ap (λ h. Some h) (c.renew_engine_carrying-status.ensures.renewed (sym c.number-2.ensures ∙ done) ∙ ap (carried weighted) c.deref_mut.ensures.value))
+    subst (λ (old : Option Schedule). IfSome old (λ h. c.variable_with.result.handle.history ≡ Some (carried weighted h))) (sym c.in-Some.ensures.engine)
+    (c.variable_with.ensures ∙ ap (λ h. Some h) (c.renew_engine_carrying-status.ensures.renewed (sym c.number-2.ensures ∙ done) ∙ ap (carried weighted) c.deref_mut.ensures.value))
 
 pub returns-clause-small : goal.returns-clause-small
 returns-clause-small c =

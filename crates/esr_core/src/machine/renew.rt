@@ -83,7 +83,7 @@ impl<M: Metric + Drop> Machine<M> {
     /// both cases nothing has changed.
     pub fn renew(&mut self, alloc: Global, metric: M) -> Result<(), RenewError>
         ensures ok { OnOk result (self.new ≡ renewed self.old (M.weights metric)) }
-        ensures serializable { OnOk result ((later : List Entry) → IsLegal M.distance_by (continued self.new later)
+        ensures serializable_as_one { OnOk result ((later : List Entry) → IsLegal M.distance_by (continued self.new later)
             → AreSerializableAsOne self.old (continued self.new later)) }
         ensures active { IsErrOf result RenewError.TransactionActive ↔ (has_active self.old ≡ true) }
         ensures err { OnErr result (self.new ≡ self.old) }

@@ -18,7 +18,7 @@ returns-in-Ok-clause-carried g c =
     let law = λ (k : Schedule). (later : List Entry) → IsLegal weighted (continued k later) → AreSerializableAsOne h (continued k later) in
     record {
       over = subst (IsCarriedOver weighted h) g.in-Ok.ensures.ok g.in-Ok.ensures.over;
-      as_one = subst law g.in-Ok.ensures.ok g.in-Ok.ensures.serializable;
+      as_one = subst law g.in-Ok.ensures.ok g.in-Ok.ensures.serializable_as_one;
       room = subst (λ (k : Schedule). taken k ≤ taken h) g.in-Ok.ensures.ok g.in-Ok.ensures.room;
     }
 

@@ -5,8 +5,8 @@ use Rattle.esr_c.proofs.engine.read.Goals as goal
 
 pub returns : goal.returns
 returns c =
-    let reported = c.answer-status.ensures in
-    let before : c.args.variable.now.held.history ≡ Some c.deref_mut.result.now = search rules in
+    let reported = c.store_reply-status.ensures in
+    let before : c.args.variable.now.handle.history ≡ Some c.deref_mut.result.now = search rules in
     rw (before, c.into_handle-variable.ensures)
-    (called (Read c.args.txn c.args.item) c.deref_mut.result.now c.read.new.self c.args.reply.now c.answer-status.new.reply c.read.result c.answer-status.result
+    (called (Read c.args.txn c.args.item) c.deref_mut.result.now c.read.new.self c.args.reply.now c.store_reply-status.new.reply c.read.result c.store_reply-status.result
     c.read.ensures.reply c.read.ensures.added c.read.ensures.full c.read.ensures.err reported.ok reported.full reported.err)

@@ -6,12 +6,12 @@ use Rattle.esr_c.proofs.engine.read_for_update.Goals as goal
 
 pub returns : goal.returns
 returns c =
-    let reported = c.read_and_reply-status.ensures in
+    let reported = c.store_read_for_update-status.ensures in
     let h : Schedule = c.deref_mut.result.now in
-    let g : Schedule = c.read_and_reply-status.new.engine in
-    let reply = c.read_and_reply-status.new.reply in
-    let n = status_number c.read_and_reply-status.result in
-    let before : c.args.variable.now.held.history ≡ Some h = c.in-Some.ensures.engine ∙ ap (λ (k : Schedule). Some k) (sym c.deref_mut.ensures.value) in
-    subst (λ (o : Option Schedule). IsForUpdateCall c.args.txn c.args.item o c.open_engine.result.held.history c.args.reply.now reply n) (sym before)
-    (subst (λ (o : Option Schedule). IsForUpdateCall c.args.txn c.args.item (Some h) o c.args.reply.now reply n) (sym c.open_engine.ensures)
-    (call_of c.args.txn c.args.item h g c.args.reply.now reply c.read_and_reply-status.result reported.statuses reported.full reported.done reported.err reported.kept))
+    let g : Schedule = c.store_read_for_update-status.new.engine in
+    let reply = c.store_read_for_update-status.new.reply in
+    let n = status_number c.store_read_for_update-status.result in
+    let before : c.args.variable.now.handle.history ≡ Some h = c.in-Some.ensures.engine ∙ ap (λ (k : Schedule). Some k) (sym c.deref_mut.ensures.value) in
+    subst (λ (o : Option Schedule). IsForUpdateCall c.args.txn c.args.item o c.variable_with.result.handle.history c.args.reply.now reply n) (sym before)
+    (subst (λ (o : Option Schedule). IsForUpdateCall c.args.txn c.args.item (Some h) o c.args.reply.now reply n) (sym c.variable_with.ensures)
+    (call_of c.args.txn c.args.item h g c.args.reply.now reply c.store_read_for_update-status.result reported.statuses reported.full reported.done reported.err reported.unchanged_if_full))

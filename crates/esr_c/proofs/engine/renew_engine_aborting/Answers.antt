@@ -6,7 +6,7 @@ use Rattle.esr_history.specs.Machine.{Schedule, IsLegal}
 use Rattle.esr_core.specs.Renewed.{AreSerializableAsOne}
 use Rattle.esr_c.proofs.engine.renew_engine_aborting.Goals as goal
 
-pub returns-in-Ok-clause-serializable : goal.returns-in-Ok-clause-serializable
-returns-in-Ok-clause-serializable g c =
+pub returns-in-Ok-clause-serializable_as_one : goal.returns-in-Ok-clause-serializable_as_one
+returns-in-Ok-clause-serializable_as_one g c =
     let law = λ (k : Schedule). (later : List Entry) → IsLegal weighted (continued k later) → AreSerializableAsOne g.args.engine.now (continued k later) in
-    record { as_one = subst law g.in-Ok.ensures.ok g.in-Ok.ensures.serializable }
+    record { as_one = subst law g.in-Ok.ensures.ok g.in-Ok.ensures.serializable_as_one }

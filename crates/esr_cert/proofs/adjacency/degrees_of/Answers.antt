@@ -12,17 +12,17 @@ loop-chain-init c = record {
 }
 
 pub count_links-requires-clause-links : goal.count_links-requires-clause-links
-count_links-requires-clause-links c = links_here c.chains-source.result.0.now c.chains-source.ensures.links c.loop-chain.invariant.place c.loop-chain-test.true c.chain-item.is
+count_links-requires-clause-links c = links_here c.chains-source.result.0.now c.chains-source.ensures.chain_arcs c.loop-chain.invariant.place c.loop-chain-test.true c.chain-item.is
 
 pub overflow_add-begin : goal.overflow_add-begin
 overflow_add-begin c =
-    let here = links_here c.chains-source.result.0.now c.chains-source.ensures.links c.loop-chain.invariant.place c.loop-chain-test.true c.chain-item.is in
+    let here = links_here c.chains-source.result.0.now c.chains-source.ensures.chain_arcs c.loop-chain.invariant.place c.loop-chain-test.true c.chain-item.is in
     omega (arith, here.inside, c.requires.count_within_max, c.len-begin.ensures, c.chain-item.result.costs.ok.0)
 
 pub loop-chain-preserved : goal.loop-chain-preserved
 loop-chain-preserved c =
     let size : c.len-begin.result ≡ length c.chain-item.result.costs.items = omega (arith, c.len-begin.ensures, c.chain-item.result.costs.ok.0) in
-    let after = links_after c.chains-source.result.0.now c.chains-source.ensures.links c.loop-chain.invariant.place c.loop-chain-test.true c.chain-item.is c.len-begin.result size in
+    let after = links_after c.chains-source.result.0.now c.chains-source.ensures.chain_arcs c.loop-chain.invariant.place c.loop-chain-test.true c.chain-item.is c.len-begin.result size in
     record { place = after.0; inside = after.1; counted = rw size c.count_links.ensures }
 
 pub returns : goal.returns

@@ -11,4 +11,4 @@ returns-then-j-len c =
 pub returns-else-j-len : goal.returns-else-j-len
 returns-else-j-len c =
     let chain = c.args.chain.now in
-    sym (get_or_push chain.writers.items (c.args.source + 1) 0 c.args.j (omega (arith, c.requires.count, c.requires.place, c.if-j-len.false, c.len.ensures, chain.writers.ok.0)))
+    sym (get_or_push chain.writers.items (c.args.source + 1) 0 c.args.j (omega (arith, c.requires.one_more_cost, c.requires.in_range, c.if-j-len.false, c.len.ensures, chain.writers.ok.0)))

@@ -5,5 +5,5 @@ use Rattle.esr_cli.proofs.commands.explain.Goals as goal
 
 pub returns-clause-app : goal.returns-clause-app
 returns-clause-app c =
-    let prose = rw c.prose.ensures.rule at (c.with_argument.ensures.app (spec.with_name (codes "explain")) c.with_name-command.ensures.app) in
-    rw c.format.ensures.rule at (c.with_argument-2.ensures.app (with_rule (spec.with_name (codes "explain")) spec.prose_rule) prose)
+    let prose = rw c.prose.ensures.rule at (c.with_argument.ensures.app (spec.query_command (codes "explain")) c.query_command-command.ensures.app) in
+    rw c.format.ensures.rule at (c.with_argument-2.ensures.app (with_rule (spec.query_command (codes "explain")) spec.prose_rule) prose)

@@ -3,4 +3,4 @@ use Rattle.esr_cli.specs.ArgumentRules as spec
 use Rattle.esr_cli.proofs.commands.shrink.Goals as goal
 
 pub returns-clause-app : goal.returns-clause-app
-returns-clause-app c = rw c.at_least.ensures.rule at (c.with_argument.ensures.app (spec.with_name (codes "shrink")) c.with_name.ensures.app)
+returns-clause-app c = rw c.at_least.ensures.rule at (c.with_argument.ensures.app (spec.query_command (codes "shrink")) c.query_command.ensures.app)

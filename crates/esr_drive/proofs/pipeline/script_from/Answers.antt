@@ -12,4 +12,4 @@ returns c =
     let slices : all_answers (map (λ b. b.items) c.as_slice-blocks.result.now) (map (λ r. r.items) c.as_slice-replies.result.now) ≡ answers =
     ap₂ (λ x y. all_answers (map (λ b. b.items) x) (map (λ r. r.items) y)) c.as_slice-blocks.ensures.value c.as_slice-replies.ensures.value in
     let names : names_in c.in_ok-names.names ≡ names_of h answers = c.in_ok-names.ensures ∙ ap (names_of h) slices in
-    subst (λ (ns : List (List ℕ)). IfOk c.named_script.result (λ out. IsDump c.args.drive_plan.now.names ns h out.items)) names c.named_script.ensures
+    subst (λ (ns : List (List ℕ)). IfOk c.script_with_names.result (λ out. IsDump c.args.drive_plan.now.names ns h out.items)) names c.script_with_names.ensures

@@ -13,4 +13,4 @@ returns-then-is_some c =
 pub loop-word-preserved : goal.loop-word-preserved
 loop-word-preserved c =
     pushed c.args.words.now c.loop-word.word-index _ c.loop-word-test.true c.loop-word.names c.in-Some.name.now c.bind.new.self
-    c.loop-word.invariant.0 c.loop-word.invariant.1 c.in-Some.ensures c.in_ok-bind.ensures.bound
+    c.loop-word.invariant.0 c.loop-word.invariant.1 c.in-Some.ensures c.in_ok-bind.ensures.appended

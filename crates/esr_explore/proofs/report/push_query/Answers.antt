@@ -8,8 +8,8 @@ use Rattle.esr_explore.proofs.report.push_query.Goals as goal
 pub returns : goal.returns
 returns c =
     let out = c.args.out.now.items in
-    let imports = numbers_of (Import c.args.place) c.args.summaries.now in
-    let distances = numbers_of (Distance c.args.place) c.args.summaries.now in
+    let imports = numbers_of (Import c.args.index) c.args.summaries.now in
+    let distances = numbers_of (Distance c.args.index) c.args.summaries.now in
     let many : c.len.result ≡ length imports = omega (arith, c.len.ensures, ap length c.in_ok-imports.ensures) in
     let named = codes "query " ++ c.args.query.name.now in
     let counted = named ++ count_text (codes " committed ") (length imports) in

@@ -20,15 +20,15 @@ loop-txn-preserved g c =
     let so_far = c.loop-txn.invariant in (
       so_far.0,
       so_far.1,
-      one_more (λ (t : TxnId). name_of_transaction (g.N.TransactionNames.names c.args.names.now) t.0) 44 _ _ _ _ _ _ _ _ c.loop-txn-test.true so_far.2
+      one_more (λ (t : TxnId). name_of_transaction (g.N.NamesByPosition.names c.args.names.now) t.0) 44 _ _ _ _ _ _ _ _ c.loop-txn-test.true so_far.2
           c.name_of_transaction-in-loop-txn.ensures c.in_ok-push_separated.ensures.ok,
     )
 
 pub returns-clause-ok : goal.returns-clause-ok
 returns-clause-ok g c =
     let so_far = c.loop-txn.invariant in
-    all_listed (g.N.TransactionNames.names c.args.names.now) c.args.out.now.items so_far.0 _ _ _ so_far.1
-    (all_joined (λ (t : TxnId). name_of_transaction (g.N.TransactionNames.names c.args.names.now) t.0) 44 _ _ _ _ _ c.loop-txn-test.false so_far.2)
+    all_listed (g.N.NamesByPosition.names c.args.names.now) c.args.out.now.items so_far.0 _ _ _ so_far.1
+    (all_joined (λ (t : TxnId). name_of_transaction (g.N.NamesByPosition.names c.args.names.now) t.0) 44 _ _ _ _ _ c.loop-txn-test.false so_far.2)
 
 pub returns-in_err-push_separated-clause-kept : goal.returns-in_err-push_separated-clause-kept
 returns-in_err-push_separated-clause-kept g c = grind (arith, common_steps)

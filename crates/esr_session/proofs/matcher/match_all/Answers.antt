@@ -3,7 +3,7 @@ use Rattle.std.proofs.lemmas.List.{take_more, take_all, take-map, length-map}
 use Rattle.esr_session.specs.Receipts.{ValidFrom, AllValid, IsForeignIn, count_in, receipts_in, Receipt}
 use Rattle.esr_session.specs.Marks.{AreMarked}
 use Rattle.esr_session.proofs.Good.{good_matches, foreign_unmatched, matches_count, all_good-snoc, receipts_in-snoc, cut_at}
-use Rattle.esr_session.proofs.Lists.{mapped_at}
+use Rattle.esr_session.proofs.MappedLists.{get_or-mapped_at}
 use Rattle.esr_session.proofs.matcher.match_all.Goals as goal
 
 pub match_list-requires-clause-marked : goal.match_list-requires-clause-marked
@@ -26,7 +26,7 @@ returns-in-Some-match_list-clause-verdict g c =
         done = take i m;
         list = (g.L.HasReceipts.receipts v);
         later = drop (suc i) m;
-        parts = cut_at m i (g.L.HasReceipts.receipts v) within ∙ ap (λ l. take i m ++ l ∷ drop (suc i) m) (mapped_at g.L.HasReceipts.receipts lists i v c.index-lists-i.is);
+        parts = cut_at m i (g.L.HasReceipts.receipts v) within ∙ ap (λ l. take i m ++ l ∷ drop (suc i) m) (get_or-mapped_at g.L.HasReceipts.receipts lists i v c.index-lists-i.is);
         before = c.loop-i.invariant.good;
         foreign = here;
       },
@@ -49,7 +49,7 @@ loop-i-preserved g c =
     let inv = c.loop-i.invariant in
     let within : i < length m = omega (arith, length-map lists g.L.HasReceipts.receipts, c.loop-i-test.true) in
     let more : take (i + 1) m ≡ take i m ++ (g.L.HasReceipts.receipts v) ∷ [] =
-    take_more m i (g.L.HasReceipts.receipts v) within ∙ ap (λ l. take i m ++ l ∷ []) (mapped_at g.L.HasReceipts.receipts lists i v c.index-lists-i.is) in
+    take_more m i (g.L.HasReceipts.receipts v) within ∙ ap (λ l. take i m ++ l ∷ []) (get_or-mapped_at g.L.HasReceipts.receipts lists i v c.index-lists-i.is) in
     let before : receipts_in (map g.L.HasReceipts.receipts (take i lists)) ≡ receipts_in (take i m) =
     ap receipts_in (sym (take-map g.L.HasReceipts.receipts i lists)) in
     let good : ValidFrom es (receipts_in (map g.L.HasReceipts.receipts (take i lists))) 0 c.receipts.result.now = search rules in

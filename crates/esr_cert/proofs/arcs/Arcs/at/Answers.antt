@@ -9,42 +9,42 @@ overflow_cast-source c = omega (arith, updates_bounded c.self.inside.updates.now
 pub bounds-self-inside-self-inside : goal.bounds-self-inside-self-inside
 bounds-self-inside-self-inside c = omega (arith, count_is c.self.inside.updates.now c.self.inside.before.now c.self.inside.chains.now c.self.inside.must.now c.self.invariant.0 c.self.inside.chain_starts.now c.self.invariant.1)
 
-pub offset_bounds-self-inside-chain-then-number-links : goal.offset_bounds-self-inside-chain-then-number-links
-offset_bounds-self-inside-chain-then-number-links c =
+pub offset_bounds-self-inside-chain-then-number-first_pair_arc : goal.offset_bounds-self-inside-chain-then-number-first_pair_arc
+offset_bounds-self-inside-chain-then-number-first_pair_arc c =
     omega (
       arith,
-      row_in_chains c.self.inside.updates.now c.self.inside.before.now c.self.inside.chains.now c.self.inside.must.now c.self.invariant.0 c.self.inside.chain_starts.now c.self.invariant.1 c.args.number c.chain_of_arc-chain.result c.if-number-links.true c.chain_of_arc-chain.ensures.bound c.chain_of_arc-chain.ensures.begun c.chain_of_arc-chain.ensures.last,
+      row_in_chains c.self.inside.updates.now c.self.inside.before.now c.self.inside.chains.now c.self.inside.must.now c.self.invariant.0 c.self.inside.chain_starts.now c.self.invariant.1 c.args.number c.chain_of_arc-chain.result c.if-number-first_pair_arc.true c.chain_of_arc-chain.ensures.bound c.chain_of_arc-chain.ensures.begun c.chain_of_arc-chain.ensures.last,
       chains_bounded c.self.inside.updates.now c.self.inside.before.now c.self.inside.chains.now c.self.inside.must.now c.self.invariant.0 c.self.inside.chain_starts.now c.self.invariant.1,
     )
 
-pub bounds-self-inside-chain-then-number-links : goal.bounds-self-inside-chain-then-number-links
-bounds-self-inside-chain-then-number-links c =
-    row_in_chains c.self.inside.updates.now c.self.inside.before.now c.self.inside.chains.now c.self.inside.must.now c.self.invariant.0 c.self.inside.chain_starts.now c.self.invariant.1 c.args.number c.chain_of_arc-chain.result c.if-number-links.true c.chain_of_arc-chain.ensures.bound c.chain_of_arc-chain.ensures.begun c.chain_of_arc-chain.ensures.last
+pub bounds-self-inside-chain-then-number-first_pair_arc : goal.bounds-self-inside-chain-then-number-first_pair_arc
+bounds-self-inside-chain-then-number-first_pair_arc c =
+    row_in_chains c.self.inside.updates.now c.self.inside.before.now c.self.inside.chains.now c.self.inside.must.now c.self.invariant.0 c.self.inside.chain_starts.now c.self.invariant.1 c.args.number c.chain_of_arc-chain.result c.if-number-first_pair_arc.true c.chain_of_arc-chain.ensures.bound c.chain_of_arc-chain.ensures.begun c.chain_of_arc-chain.ensures.last
 
-pub link_at-requires-clause-count : goal.link_at-requires-clause-count
-link_at-requires-clause-count c =
-    chain_whole c.self.inside.updates.now c.self.inside.before.now c.self.inside.chains.now c.self.inside.must.now c.self.invariant.0 c.self.inside.chain_starts.now c.self.invariant.1 c.args.number c.chain_of_arc-chain.result c.if-number-links.true c.chain_of_arc-chain.ensures.bound c.chain_of_arc-chain.ensures.begun c.chain_of_arc-chain.ensures.last (get_or c.self.inside.chains.now c.chain_of_arc-chain.result c.index-self-chain.result) (ap (get_or c.self.inside.chains.now c.chain_of_arc-chain.result) c.index-self-chain.is)
+pub chain_arc_at-requires-clause-one_more_cost : goal.chain_arc_at-requires-clause-one_more_cost
+chain_arc_at-requires-clause-one_more_cost c =
+    chain_whole c.self.inside.updates.now c.self.inside.before.now c.self.inside.chains.now c.self.inside.must.now c.self.invariant.0 c.self.inside.chain_starts.now c.self.invariant.1 c.args.number c.chain_of_arc-chain.result c.if-number-first_pair_arc.true c.chain_of_arc-chain.ensures.bound c.chain_of_arc-chain.ensures.begun c.chain_of_arc-chain.ensures.last (get_or c.self.inside.chains.now c.chain_of_arc-chain.result c.index-self-chain.result) (ap (get_or c.self.inside.chains.now c.chain_of_arc-chain.result) c.index-self-chain.is)
 
-pub link_at-requires-clause-place : goal.link_at-requires-clause-place
-link_at-requires-clause-place c =
-    place_in_chain c.self.inside.updates.now c.self.inside.before.now c.self.inside.chains.now c.self.inside.must.now c.self.invariant.0 c.self.inside.chain_starts.now c.self.invariant.1 c.args.number c.chain_of_arc-chain.result c.if-number-links.true c.chain_of_arc-chain.ensures.bound c.chain_of_arc-chain.ensures.begun c.chain_of_arc-chain.ensures.last (get_or c.self.inside.chains.now c.chain_of_arc-chain.result c.index-self-chain.result) (ap (get_or c.self.inside.chains.now c.chain_of_arc-chain.result) c.index-self-chain.is)
+pub chain_arc_at-requires-clause-in_range : goal.chain_arc_at-requires-clause-in_range
+chain_arc_at-requires-clause-in_range c =
+    place_in_chain c.self.inside.updates.now c.self.inside.before.now c.self.inside.chains.now c.self.inside.must.now c.self.invariant.0 c.self.inside.chain_starts.now c.self.invariant.1 c.args.number c.chain_of_arc-chain.result c.if-number-first_pair_arc.true c.chain_of_arc-chain.ensures.bound c.chain_of_arc-chain.ensures.begun c.chain_of_arc-chain.ensures.last (get_or c.self.inside.chains.now c.chain_of_arc-chain.result c.index-self-chain.result) (ap (get_or c.self.inside.chains.now c.chain_of_arc-chain.result) c.index-self-chain.is)
 
-pub link_at-requires-clause-source : goal.link_at-requires-clause-source
-link_at-requires-clause-source c = updates_bounded c.self.inside.updates.now c.self.inside.before.now c.self.inside.chains.now c.self.inside.must.now c.self.invariant.0 c.self.inside.chain_starts.now c.self.invariant.1
+pub chain_arc_at-requires-clause-source_within_max : goal.chain_arc_at-requires-clause-source_within_max
+chain_arc_at-requires-clause-source_within_max c = updates_bounded c.self.inside.updates.now c.self.inside.before.now c.self.inside.chains.now c.self.inside.must.now c.self.invariant.0 c.self.inside.chain_starts.now c.self.invariant.1
 
-pub returns-then-number-links : goal.returns-then-number-links
-returns-then-number-links c =
-    c.link_at.ensures
-    ∙ link_of c.self.inside.updates.now c.self.inside.before.now c.self.inside.chains.now c.self.inside.must.now c.self.invariant.0 c.self.inside.chain_starts.now c.self.invariant.1 c.args.number c.chain_of_arc-chain.result c.if-number-links.true c.chain_of_arc-chain.ensures.bound c.chain_of_arc-chain.ensures.begun c.chain_of_arc-chain.ensures.last (get_or c.self.inside.chains.now c.chain_of_arc-chain.result c.index-self-chain.result) (ap (get_or c.self.inside.chains.now c.chain_of_arc-chain.result) c.index-self-chain.is)
+pub returns-then-number-first_pair_arc : goal.returns-then-number-first_pair_arc
+returns-then-number-first_pair_arc c =
+    c.chain_arc_at.ensures
+    ∙ link_of c.self.inside.updates.now c.self.inside.before.now c.self.inside.chains.now c.self.inside.must.now c.self.invariant.0 c.self.inside.chain_starts.now c.self.invariant.1 c.args.number c.chain_of_arc-chain.result c.if-number-first_pair_arc.true c.chain_of_arc-chain.ensures.bound c.chain_of_arc-chain.ensures.begun c.chain_of_arc-chain.ensures.last (get_or c.self.inside.chains.now c.chain_of_arc-chain.result c.index-self-chain.result) (ap (get_or c.self.inside.chains.now c.chain_of_arc-chain.result) c.index-self-chain.is)
     ∙ ap (λ arcs. arc_at arcs c.args.number) c.self.view_is
 
 pub bounds-self-inside-i-else-i-self : goal.bounds-self-inside-i-else-i-self
-bounds-self-inside-i-else-i-self c = must_inside c.self.inside.updates.now c.self.inside.before.now c.self.inside.chains.now c.self.inside.must.now c.self.invariant.0 c.self.inside.chain_starts.now c.self.invariant.1 c.args.number c.if-number-links.false (subst (λ arcs. c.args.number < length arcs) (sym c.self.view_is) c.requires) c.if-i-self.false
+bounds-self-inside-i-else-i-self c = must_inside c.self.inside.updates.now c.self.inside.before.now c.self.inside.chains.now c.self.inside.must.now c.self.invariant.0 c.self.inside.chain_starts.now c.self.invariant.1 c.args.number c.if-number-first_pair_arc.false (subst (λ arcs. c.args.number < length arcs) (sym c.self.view_is) c.requires) c.if-i-self.false
 
 pub returns-then-i-self : goal.returns-then-i-self
-returns-then-i-self c = pair_is c.self.inside.updates.now c.self.inside.before.now c.self.inside.chains.now c.self.inside.must.now c.self.invariant.0 c.self.inside.chain_starts.now c.self.invariant.1 c.args.number c.if-number-links.false c.if-i-self.true
+returns-then-i-self c = pair_is c.self.inside.updates.now c.self.inside.before.now c.self.inside.chains.now c.self.inside.must.now c.self.invariant.0 c.self.inside.chain_starts.now c.self.invariant.1 c.args.number c.if-number-first_pair_arc.false c.if-i-self.true
     ∙ ap (λ arcs. arc_at arcs c.args.number) c.self.view_is
 
 pub returns-else-i-self : goal.returns-else-i-self
-returns-else-i-self c = must_is c.self.inside.updates.now c.self.inside.before.now c.self.inside.chains.now c.self.inside.must.now c.self.invariant.0 c.self.inside.chain_starts.now c.self.invariant.1 c.args.number c.if-number-links.false (subst (λ arcs. c.args.number < length arcs) (sym c.self.view_is) c.requires) c.if-i-self.false
+returns-else-i-self c = must_is c.self.inside.updates.now c.self.inside.before.now c.self.inside.chains.now c.self.inside.must.now c.self.invariant.0 c.self.inside.chain_starts.now c.self.invariant.1 c.args.number c.if-number-first_pair_arc.false (subst (λ arcs. c.args.number < length arcs) (sym c.self.view_is) c.requires) c.if-i-self.false
     ∙ ap (λ arcs. arc_at arcs c.args.number) c.self.view_is

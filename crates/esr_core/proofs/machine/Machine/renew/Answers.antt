@@ -17,6 +17,6 @@ invariant_of-self g c =
 pub returns-in-Ok-clause-ok : goal.returns-in-Ok-clause-ok
 returns-in-Ok-clause-ok g c = c.restart.ensures ∙ ap (λ (vs : List ℤ). record { opening = vs; weights = g.M.Metric.weights c.args.metric; entries = [] }) c.in-Ok.ensures.opening
 
-pub returns-in-Ok-clause-serializable : goal.returns-in-Ok-clause-serializable
-returns-in-Ok-clause-serializable g c =
+pub returns-in-Ok-clause-serializable_as_one : goal.returns-in-Ok-clause-serializable_as_one
+returns-in-Ok-clause-serializable_as_one g c =
     λ later legal. as_one g.M.Metric.distance_by c.args.self.now _ c.in-Ok.ensures.legal legal (ap (λ (s : Schedule). s.opening) c.restart.ensures ∙ c.in-Ok.ensures.opening)

@@ -76,7 +76,7 @@ returns-in-Ok-Wrote-clause-full c =
     let capacity = has_capacity (goal.at.returns-in-Ok-Wrote-clause-full c).After-step-in-Ok-Wrote in
     (λ e. absurd (true≢false (sym (c.step-in-Ok-Wrote.ensures.full.0 e) ∙ capacity.1)), λ p. absurd (true≢false (sym p ∙ capacity.0)))
 
-pub returns-in-Ok-Wrote-clause-kept : goal.returns-in-Ok-Wrote-clause-kept
-returns-in-Ok-Wrote-clause-kept c =
-    let capacity = has_capacity (goal.at.returns-in-Ok-Wrote-clause-kept c).After-step-in-Ok-Wrote in
+pub returns-in-Ok-Wrote-clause-unchanged_if_full : goal.returns-in-Ok-Wrote-clause-unchanged_if_full
+returns-in-Ok-Wrote-clause-unchanged_if_full c =
+    let capacity = has_capacity (goal.at.returns-in-Ok-Wrote-clause-unchanged_if_full c).After-step-in-Ok-Wrote in
     λ e. absurd (true≢false (sym (c.step-in-Ok-Wrote.ensures.full.0 e) ∙ capacity.1))

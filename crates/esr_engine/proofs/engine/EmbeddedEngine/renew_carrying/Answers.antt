@@ -12,8 +12,8 @@ returns-clause-over c =
     subst (IsCarriedOver weighted c.args.self.now) (sym (c.replace_by.ensures ∙ c.in_ok-next.ensures.carried))
     (carried_over c.args.self.now (subst (IsLegal weighted) c.self.view_is c.log-invariant.ensures.legal))
 
-pub returns-clause-serializable : goal.returns-clause-serializable
-returns-clause-serializable c =
+pub returns-clause-serializable_as_one : goal.returns-clause-serializable_as_one
+returns-clause-serializable_as_one c =
     λ later goes_on. as_one weighted c.args.self.now _ (subst (IsLegal weighted) c.self.view_is c.log-invariant.ensures.legal) goes_on (ap (λ (g : Schedule). g.opening) (c.replace_by.ensures ∙ c.in_ok-next.ensures.carried))
 
 pub returns-clause-room : goal.returns-clause-room

@@ -4,7 +4,7 @@ use Rattle.esr_locks.proofs.ascending_list.AscendingList.insert.Goals as goal
 
 pub returns : goal.returns
 returns g c =
-    let rows = c.self.inside.rows.items in
-    let unused = c.self.inside.unused in
-    rw (c.put.ensures, ← c.self.view_is)
-    (drop-insert rows unused c.args.at (unused + c.args.at) c.args.row (omega (arith, c.self.invariant)) refl)
+    let elements = c.self.inside.elements.items in
+    let removed = c.self.inside.removed in
+    rw (c.insert_reserved.ensures, ← c.self.view_is)
+    (drop-insert elements removed c.args.at (removed + c.args.at) c.args.element (omega (arith, c.self.invariant)) refl)

@@ -2,4 +2,4 @@ use Rattle.std.proofs.Common.{◌∙◌}
 use Rattle.esr_locks.proofs.ascending_list.AscendingList.remove.Goals as goal
 
 pub returns : goal.returns
-returns g c = rw (← c.self.view_is) (c.compact-self-inside.ensures.items ∙ c.take_out-unused.ensures.items)
+returns g c = rw (← c.self.view_is) (c.compact-self-inside.ensures.items ∙ c.remove_lazily-removed.ensures.items)

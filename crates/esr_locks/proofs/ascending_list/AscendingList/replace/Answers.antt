@@ -6,10 +6,10 @@ use Rattle.esr_locks.proofs.ascending_list.AscendingList.replace.Goals as goal
 
 pub returns : goal.returns
 returns g c =
-    let rows = c.self.inside.rows in
-    let unused = c.self.inside.unused in
+    let elements = c.self.inside.elements in
+    let removed = c.self.inside.removed in
     let at = c.args.at in
-    let written = set rows.items (unused + at) c.args.row in
+    let written = set elements.items (removed + at) c.args.element in
     rw (c.deref_mut.ensures.value, ← c.self.view_is)
-    (ap (drop unused) (items-with_items rows written (length-set rows.items (unused + at) c.args.row))
-    ∙ drop-set_after rows.items unused at (unused + at) c.args.row (omega (arith, c.self.invariant)) refl)
+    (ap (drop removed) (items-with_items elements written (length-set elements.items (removed + at) c.args.element))
+    ∙ drop-set_after elements.items removed at (removed + at) c.args.element (omega (arith, c.self.invariant)) refl)
