@@ -91,7 +91,7 @@ enum {
     ESR_NOT_A_COMMITTED_QUERY = 6, /* esr_audit, esr_bundle, esr_explain, esr_picture */
     ESR_TOO_SMALL = 7,             /* the buffer is too small; the count is stored, except by esr_do */
     ESR_NO_SUCH_EVENT = 8,         /* esr_do: an unknown kind of event */
-    ESR_HISTORY_FULL = 12,         /* an event: every entry left is reserved for the end of a transaction */
+    ESR_HISTORY_FULL = 12,         /* an event: no entry is left, besides those reserved for ends, or no transaction number */
     ESR_NO_MEMORY = 13,
     ESR_IS_CLOSED = 14,            /* the engine is not open */
     ESR_IS_OPEN = 15,              /* opening: the engine is already open */

@@ -1,4 +1,4 @@
-/* esr_bank: one engine shared by POSIX threads, with retries, deadlock resolution and renewal.
+/* esr_bank: one engine shared by POSIX threads, with retries, deadlock resolution by a time limit, and renewal.
  *
  *     esr_bank bank;
  *     if (esr_bank_open(&bank, opening, items, 10.0) != ESR_DONE) ...
