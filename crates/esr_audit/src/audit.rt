@@ -82,7 +82,7 @@ fn finding_of<M: Metric>(
     ensures query { IfOk result (λ f. f.query ≡ q) }
     ensures finding { IfOk result (IsFindingOf M.distance_by history.now.schedule q.0) }
 {
-    let _invariant = history.log(); // called for its contract: it states the invariant
+    let _invariant = history.log(); // brings the invariant into the proof
     let import = history.import(q);
     let problem = problem_of(alloc, history, order, q)?;
     let certificate = certify(alloc, &problem)?;
@@ -97,12 +97,12 @@ fn finding_of<M: Metric>(
     })
 }
 
-/// Returns the distance between the values that a committed query read and those that it would read at its nearest serial
-/// placement, with a certificate that no placement is nearer. The result holds for every continuation of the history.
+/// Returns the finding of a committed query: the distance between the values that it read and those that it would read at its
+/// nearest serial placement, with a certificate that no placement is nearer. The result holds for every continuation of the history.
 ///
-/// The nodes of the problem are the updates that are relevant to the query: those that wrote an item that it read, those
-/// from which a chain of conflicts leads to such an update, and, if the query is strict, those that committed before it
-/// began, since a strict query is placed after these.
+/// The updates of the problem are those that committed before the query and are relevant to it: those that wrote an item that
+/// it read, those from which a chain of conflicts leads to such an update, and, if the query is strict, those that committed
+/// before it began, since a strict query is placed after these.
 ///
 /// # Errors
 /// `NotACommittedQuery` if and only if the transaction is not a query or has not committed. `NoMemory` if an allocation
@@ -121,7 +121,7 @@ pub fn audit_query<M: Metric>(
         → IsAnswer M.distance_by (continued history.now.schedule rest) q.0 f.distance f.import
         (map (λ t. t.0) f.before.items)) }
 {
-    let _invariant = history.log(); // called for its contract: it states the invariant
+    let _invariant = history.log(); // brings the invariant into the proof
     let order = Order::relevant(alloc, history, q)?;
     Ok(finding_of(alloc, history, order, q)?)
 }
@@ -233,7 +233,7 @@ fn compute_book<M: Metric>(alloc: Global, history: &History<M>) -> Result<Book, 
 pub fn prove_sound<M: Metric>(history: &History<M>)
     ensures { IsSound M.distance_by history.now.schedule }
 {
-    let _invariant = history.log(); // called for its contract: it states the invariant
+    let _invariant = history.log(); // brings the invariant into the proof
 }
 
 /// Audits a history: returns a serial order of its committed updates, and the finding of each committed query.

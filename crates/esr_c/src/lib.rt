@@ -1,10 +1,10 @@
-//! Engines for C programs. An engine is stored in a variable of the caller, who passes it to one call at a time. It is
-//! either closed or contains an engine of `esr_engine`. `bindings/c/esr.h` declares the functions.
+//! Engines for C programs. An engine is a variable of the caller, who passes it to one call at a time. The
+//! variable is either closed or holds an engine of `esr_engine`. `bindings/c/esr.h` declares the functions.
 //!
-//! The variable is two words that start as zeros. A zeroed variable is a closed engine, to which every call returns a
-//! status, and contracts speak of the history of the engine instead of memory. No exported function has a precondition,
-//! because violating one from C would be undefined behaviour: every argument that can be checked is checked and
-//! reported by a status. Lists are written to a buffer of the caller; if it is too small, the call returns the required
+//! The variable is two words that start as zeros. A zeroed variable is a closed engine: every call on it is defined
+//! and returns a status. Contracts speak of the engine's history, not of memory. No exported function has a precondition that
+//! it could check instead: every argument that can be checked is checked and reported by a status. The other rules for callers
+//! are in `esr.h`. Lists are written to a buffer of the caller; if it is too small, the call returns the required
 //! count. C therefore never frees memory that the library allocated.
 #![tactic(auto)]
 

@@ -23,7 +23,7 @@ pub fn are_below(numbers: &[u32], n: usize) -> bool
     numbers.iter().all(|u| (*u as usize) < n)
 }
 
-/// Returns whether an ascending list contains a number.
+/// Returns whether a strictly ascending list contains a number.
 pub fn contains(set: &[u32], number: u32) -> bool
     requires { is_strictly_ascending set.now ≡ true }
     ensures { result ≡ in_set set.now number }

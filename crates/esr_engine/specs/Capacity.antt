@@ -15,7 +15,7 @@ use Rattle.esr_engine.specs.declared.engine.EngineCounts.{EngineCounts}
 abbrev pub active_count : List Event → ℕ
 active_count events = count_by (is_active events) (txn_numbers events)
 
--- the entries that there are, and one for the end of each active transaction
+-- the number of entries, plus one for the end of each active transaction
 abbrev pub taken : Schedule → ℕ
 taken h = length h.entries + active_count (accepted_in h)
 
@@ -23,11 +23,13 @@ taken h = length h.entries + active_count (accepted_in h)
 abbrev pub transaction_count : Schedule → ℕ
 transaction_count h = length (begin_records (accepted_in h))
 
--- whether there is no capacity for a begin, which needs an entry, another one for its end, and a transaction number
+-- whether there is no capacity for a begin, which needs an entry, another one for the end of the transaction, and a
+-- transaction number
 abbrev pub no_begin : Schedule → Bool
 no_begin h = nat_lt MAX_ENTRIES (taken h + 2) || nat_le MAX_TRANSACTIONS (transaction_count h)
 
--- whether the history has no capacity for an event; it always has for the end of an active transaction
+-- whether the history has no capacity for an event; the end of an active transaction always fits, as an entry is reserved for
+-- it
 abbrev pub is_full : Schedule → Event → Bool
 is_full h (BeginUpdate limit) = no_begin h
 is_full h (BeginQuery limit strict) = no_begin h
@@ -35,7 +37,7 @@ is_full h (Commit t) = not (is_active (accepted_in h) t.0) && nat_le MAX_ENTRIES
 is_full h (Abort t) = not (is_active (accepted_in h) t.0) && nat_le MAX_ENTRIES (taken h)
 is_full h _ = nat_le MAX_ENTRIES (taken h)
 
--- There is an entry left for the end of each active transaction, and either end is accepted.
+-- There is an entry left for the end of each active transaction, and both its commit and its abort would be accepted.
 pub record HasReservedEnds (d : DistanceFunction) (h : Schedule) : Type 0 where
   pub capacity : taken h ≤ MAX_ENTRIES
   pub fits : (t : TxnId) → is_active (accepted_in h) t.0 ≡ true → (is_full h (Commit t) ≡ false) × (is_full h (Abort t) ≡ false)
@@ -52,13 +54,14 @@ counts_of h = record {
   transactions_left = MAX_TRANSACTIONS - transaction_count h;
 }
 
--- how many are active after a reply, and whether it ends a transaction
+-- how many transactions are active after a reply
 abbrev pub active_after : ℕ → Reply → ℕ
 active_after n (Begun t) = n + 1
 active_after n Committed = n - 1
 active_after n Aborted = n - 1
 active_after n _ = n
 
+-- whether a reply ends a transaction
 abbrev pub is_end : Reply → Bool
 is_end Committed = true
 is_end Aborted = true

@@ -7,15 +7,15 @@ use Rattle.esr_history.specs.declared.event.Reply.{Reply}
 use Rattle.esr_history.specs.Machine.{Schedule}
 use Rattle.esr_plan.specs.declared.call.Call.{Call}
 use Rattle.esr_plan.specs.Calls.{AreAnswered}
-use Rattle.esr_explore.specs.Turns.{AreDone, IsRun, BlockProgressView, RunState, initial_run_state, no_progress, run_state, turn, turns}
+use Rattle.esr_explore.specs.Turns.{AreDone, IsRun, BlockProgressView, RunState, initial_run_state, no_progress, run_state, after_turn, after_turns}
 
 -- one turn after others
-pub then_turn : (blocks : List (List Call)) (s : RunState) (rest : List ℕ) (b : ℕ) → turns blocks s (rest ++ b ∷ []) ≡ turn blocks (turns blocks s rest) b
-then_turn blocks s rest b = fold-append (turn blocks) s rest (b ∷ [])
+pub then_turn : (blocks : List (List Call)) (s : RunState) (rest : List ℕ) (b : ℕ) → after_turns blocks s (rest ++ b ∷ []) ≡ after_turn blocks (after_turns blocks s rest) b
+then_turn blocks s rest b = fold-append (after_turn blocks) s rest (b ∷ [])
 
 -- turns after those of an order
-pub then_turns : (blocks : List (List Call)) (s : RunState) (order rest : List ℕ) → turns blocks s (order ++ rest) ≡ turns blocks (turns blocks s order) rest
-then_turns blocks s order rest = fold-append (turn blocks) s order rest
+pub then_turns : (blocks : List (List Call)) (s : RunState) (order rest : List ℕ) → after_turns blocks s (order ++ rest) ≡ after_turns blocks (after_turns blocks s order) rest
+then_turns blocks s order rest = fold-append (after_turn blocks) s order rest
 
 -- if blocks have no line left, all their calls have replies
 pub done_answered : (blocks : List (List Call)) (rs : List BlockProgressView) → AreDone blocks rs → AreAnswered blocks (map (λ r. r.replies) rs)
@@ -44,12 +44,12 @@ started opening weights blocks h rs n h_is rs_is n_is = ap₂ run_state h_is (rs
 
 -- the turns of an order and those after them are a run, if each block has then executed each of its lines
 pub ran : (opening : List ℤ) (weights : List ℕ) (blocks seen : List (List Call)) (order : List ℕ) (start mid : RunState) (h closed : Schedule) (rs : List BlockProgressView)
-    → seen ≡ blocks → start ≡ initial_run_state opening weights blocks → mid ≡ turns seen start order → ((rest : List ℕ) × (run_state h rs ≡ turns seen mid rest))
+    → seen ≡ blocks → start ≡ initial_run_state opening weights blocks → mid ≡ after_turns seen start order → ((rest : List ℕ) × (run_state h rs ≡ after_turns seen mid rest))
     → AreDone seen rs → closed ≡ h → IsRun opening weights blocks order (run_state closed rs)
 ran opening weights blocks seen order start mid h closed rs seen_is start_is mid_is (rest, end_is) done closed_is =
-    let occurred : run_state h rs ≡ turns seen start (order ++ rest) = end_is ∙ (ap (λ (s : RunState). turns seen s rest) mid_is ∙ sym (then_turns seen start order rest)) in
+    let occurred : run_state h rs ≡ after_turns seen start (order ++ rest) = end_is ∙ (ap (λ (s : RunState). after_turns seen s rest) mid_is ∙ sym (then_turns seen start order rest)) in
     record {
-      rest = rest;
-      occurred = ap (λ (k : Schedule). run_state k rs) closed_is ∙ (occurred ∙ ap₂ (λ (bs : List (List Call)) (s : RunState). turns bs s (order ++ rest)) seen_is start_is);
+      extra_turns = rest;
+      end_is = ap (λ (k : Schedule). run_state k rs) closed_is ∙ (occurred ∙ ap₂ (λ (bs : List (List Call)) (s : RunState). after_turns bs s (order ++ rest)) seen_is start_is);
       done = subst (λ (bs : List (List Call)). AreDone bs rs) seen_is done;
     }

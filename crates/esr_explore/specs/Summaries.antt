@@ -33,9 +33,9 @@ given_up_in progress = count_by is_blocked progress.replies
 
 -- the summary of a run that ended so
 pub record IsSummaryOf (end : RunState) (queries : List Query) (run_summary : RunSummary) : Type 0 where
-  pub inconsistencies : AreInconsistencies end.history end.blocks queries run_summary.inconsistencies.items
-  pub blocked : run_summary.blocked_counts.items ≡ map (λ r. r.blocked) end.blocks
-  pub given_up : run_summary.given_up_counts.items ≡ map given_up_in end.blocks
+  pub inconsistencies : AreInconsistencies end.history end.all_progress queries run_summary.inconsistencies.items
+  pub blocked : run_summary.blocked_counts.items ≡ map (λ r. r.blocked) end.all_progress
+  pub given_up : run_summary.given_up_counts.items ≡ map given_up_in end.all_progress
 
 -- The summary is of a run of these blocks: legal, and taken in turns that began with this order.
 pub record IsSummary (opening : List ℤ) (weights : List ℕ) (blocks : List (List Call)) (queries : List Query) (order : List ℕ)

@@ -1,4 +1,4 @@
--- Worked examples: the queries of small blocks, the severities of runs, medians, and the lines about runs.
+-- Worked examples: the queries of small blocks, the first of the worst runs, medians, given-up lines, and lines of the output.
 use Rattle.std.specs.Prelude.{◌≡◌, ℕ, List, [], ◌∷◌, ◌++◌, Some, None, codes, map, refl}
 use Rattle.std.specs.Fmt.{digits}
 use Rattle.std.proofs.Common.{Bor}
@@ -15,15 +15,15 @@ use Rattle.esr_explore.specs.Severity.{amount_of, first_greatest}
 use Rattle.esr_explore.specs.Summaries.{given_up_in}
 
 -- a borrowed text with these bytes; its address does not matter
-abbrev name : List ℕ → Bor (List ℕ)
-name bytes = record { ref_ptr = (0, 0); now = bytes }
+abbrev borrowed : List ℕ → Bor (List ℕ)
+borrowed bytes = record { ref_ptr = (0, 0); now = bytes }
 
 -- A block of an update, one whose last line begins a query, and one that begins two.
 queries_found :
     all_queries (
-    (call.Begin (name (codes "u")) kind.Update 9 ∷ call.Commit (record { name = name (codes "u"); begin = Some 0 }) ∷ [])
-    ∷ (call.Abort (record { name = name (codes "v"); begin = None }) ∷ call.Begin (name (codes "q")) kind.Query 5 ∷ [])
-    ∷ (call.Begin (name (codes "r")) kind.StrictQuery 0 ∷ call.Begin (name (codes "s")) kind.Query 7 ∷ []) ∷ [])
+    (call.Begin (borrowed (codes "u")) kind.Update 9 ∷ call.Commit (record { name = borrowed (codes "u"); begin = Some 0 }) ∷ [])
+    ∷ (call.Abort (record { name = borrowed (codes "v"); begin = None }) ∷ call.Begin (borrowed (codes "q")) kind.Query 5 ∷ [])
+    ∷ (call.Begin (borrowed (codes "r")) kind.StrictQuery 0 ∷ call.Begin (borrowed (codes "s")) kind.Query 7 ∷ []) ∷ [])
     ≡ begun_at 1 1 (codes "q") ∷ begun_at 2 0 (codes "r") ∷ begun_at 2 1 (codes "s") ∷ []
 queries_found = refl
 
@@ -36,17 +36,18 @@ first_of_equals : first_greatest (0 ∷ 0 ∷ []) ≡ 0
 first_of_equals = refl
 
 -- a query that did not commit counts as 0
-amounts : map (amount_of Import) (Some (record { import = 4; distance = 1 }) ∷ None ∷ []) ≡ 4 ∷ 0 ∷ []
-amounts = refl
+uncommitted_counts_as_0 : map (amount_of Import) (Some (record { import = 4; distance = 1 }) ∷ None ∷ []) ≡ 4 ∷ 0 ∷ []
+uncommitted_counts_as_0 = refl
 
--- the lower of two in the middle
+-- the lower of the two middle values
 median_of_four : median (5 ∷ 1 ∷ 9 ∷ 3 ∷ []) ≡ 3
 median_of_four = refl
 
 median_of_three : median (8 ∷ 8 ∷ 2 ∷ []) ≡ 8
 median_of_three = refl
 
--- a block of three lines, with the last reply to each: the blocked line was given up, the refused line was not
+-- a block of three lines, with the final reply to each: one whose final reply is a block was given up, one that was refused for
+-- another reason was not
 lines_given_up : given_up_in (record {
   replies = Begun (txn 1) ∷ Refused (BlockedByLock (txn 2)) ∷ Refused NoSuchItem ∷ [];
   tries = 0;

@@ -12,7 +12,7 @@ ghost use Rattle.esr_base.specs.declared.limits.TheConstants.{MAX_ENTRIES};
 ghost use Rattle.esr_history.specs.Machine.{IsLegal};
 ghost use Rattle.esr_plan.specs.Plan.{weights_of};
 ghost use Rattle.esr_plan.specs.DrivePlans.{IsSound};
-ghost use Rattle.esr_explore.specs.Turns.{AreDone, IsRun, initial_run_state, no_progress, history_after, progress_after, next_event, run_state, turn, turns};
+ghost use Rattle.esr_explore.specs.Turns.{AreDone, IsRun, initial_run_state, no_progress, history_after, progress_after, next_event, run_state, after_turn, after_turns};
 
 use crate::progress::BlockProgress;
 use esr_core::{Machine, StepError};
@@ -70,7 +70,7 @@ fn execute_turn(
 ) -> Result<(), StepError>
     requires { length all_progress.old.items ≤ length blocks.now }
     ensures run_state { OnOk result (run_state machine.new all_progress.new.items
-        ≡ turn (map (λ b. b.items) blocks.now) (run_state machine.old all_progress.old.items) block) }
+        ≡ after_turn (map (λ b. b.items) blocks.now) (run_state machine.old all_progress.old.items) block) }
     ensures len { length all_progress.new.items ≡ length all_progress.old.items }
 {
     if block >= all_progress.len() {
@@ -88,7 +88,7 @@ fn take_turns(
 ) -> Result<(), StepError>
     requires { length all_progress.old.items ≤ length blocks.now }
     ensures run_state { OnOk result (run_state machine.new all_progress.new.items
-        ≡ turns (map (λ b. b.items) blocks.now) (run_state machine.old all_progress.old.items) order.now) }
+        ≡ after_turns (map (λ b. b.items) blocks.now) (run_state machine.old all_progress.old.items) order.now) }
     ensures len { length all_progress.new.items ≡ length all_progress.old.items }
 {
     for block in order {
@@ -151,7 +151,7 @@ fn finish(
 ) -> Result<(), StepError>
     requires { length all_progress.old.items ≡ length blocks.now }
     ensures run_state { OnOk result ((rest : List ℕ) × (run_state machine.new all_progress.new.items
-        ≡ turns (map (λ b. b.items) blocks.now) (run_state machine.old all_progress.old.items) rest)) }
+        ≡ after_turns (map (λ b. b.items) blocks.now) (run_state machine.old all_progress.old.items) rest)) }
     ensures done { OnOk result (AreDone (map (λ b. b.items) blocks.now) all_progress.new.items) }
 {
     let mut from = 0;

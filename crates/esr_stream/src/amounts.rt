@@ -1,21 +1,22 @@
-//! Proposes an amount for each version. No contract constrains the amounts: the pass checks them.
+//! Proposes an amount for each version. No contract constrains the amounts: the pass (`pass`) checks them.
 //!
-//! It lists the versions in commit order, each with the cost of the version that it overwrites, and then visits the updates
-//! from the last to the first. The last version of each item gets its cost as its amount. For each update, the sum of the
-//! amounts of the versions that it writes is distributed over the versions that it overwrites, in proportion to their costs.
-//! If these costs are less than the sum, the update has an *excess*, and a breadth-first search (`search`) looks for an
-//! earlier version that can take it. From an update, the search goes to the writer of a version that the update overwrites, if
-//! this version has residual capacity (its amount is less than its cost), and to the update that overwrites a version that the
-//! update writes, if the stored amount of this version is positive. So the search works in the flow network with all arcs
-//! reversed: an arc leads from the overwriter of a version to its writer. Each path carries its bottleneck or the excess,
-//! whichever is less. The amounts along the path change by this. So at each update strictly between the ends, the difference
-//! between the amounts that it writes and those that it overwrites stays the same. `MAX_VISITS_PER_UPDATE` bounds the work of
-//! all searches.
+//! The *cost* of a version is the distance of the query's reads of the item from it. Its *amount* is the proposed flow on its
+//! arc, which leads from the update that writes it to the one that overwrites it. First, the versions are listed in commit
+//! order, each with the cost of the version that it overwrites. Then the *sweep* visits the updates from the last to the first.
+//! The last version of each item gets its cost as its amount. For each update, the sum of the amounts of the versions that it
+//! writes is distributed over the versions that it overwrites, in proportion to their costs. If these costs add up to less than
+//! that sum, the update has an *excess*, and a breadth-first search (`search`) looks for an earlier version that can take it.
 //!
-//! A version takes 16 bytes. Until the sweep has passed it, the field `amount` has the cost of the version that it overwrites;
+//! The search works in the flow network with all arcs reversed. It goes from an update to the writer of a version that the
+//! update overwrites, if this version has residual capacity (its amount is less than its cost). It also goes from an update to
+//! the overwriter of a version that the update writes, if the amount of this version is positive. Each path carries its
+//! bottleneck or the excess, whichever is less, and the amounts along it change by this much. So at each update strictly between
+//! the ends, the difference between the amounts of the versions that it writes and of those that it overwrites stays the same.
+//! `MAX_VISITS_PER_UPDATE` bounds the work of all searches.
+//!
+//! A version takes 16 bytes. Until the sweep has passed it, the field `amount` holds the cost of the version that it overwrites;
 //! afterwards, its own amount. So a search computes the costs on its path again. All stored costs and amounts include the
-//! offset. Rejected: separate lists of costs, amounts, writers and links, which take 28 bytes and
-//! several passes.
+//! offset. Rejected: separate lists of costs, amounts, writers and links, which take 28 bytes, and are filled one after another.
 ghost use Rattle.std.specs.Prelude.{◌≡◌, ◌<◌, All, length};
 ghost use Rattle.esr_items.specs.Values.{IsValue};
 ghost use Rattle.esr_stream.specs.Reads.{AreReadsInRange};
@@ -29,20 +30,20 @@ use std::alloc::{AllocError, Global};
 /// The id of no version. An id is an index in `ProposedAmounts::versions` and takes 31 bits.
 pub const NONE: u32 = u32::MAX >> 1;
 
-/// The position of no update.
+/// The position in commit order of no update.
 pub const NOBODY: u16 = u16::MAX;
 
-/// A version of an item. An access that only reads, and a write that its update repeats, have one too, which is never used.
+/// A version of an item. A read has one too, and so has a write that the same update overwrites later; these are never used.
 #[derive(Clone, Copy)]
 pub struct Version {
     /// Its amount. Before the sweep has passed it: the cost of the version that it overwrites.
     pub amount: u64,
-    /// Twice the id of the version that it overwrites (`NONE` for an opening value and for an unused version), plus 1 if its
-    /// amount is less than its cost.
+    /// Twice the id of the version that it overwrites (`NONE` for an opening value and for an unused version), plus 1 if the sweep
+    /// has passed it and its amount is less than its cost.
     link: u32,
-    /// The update that writes it.
+    /// The position in commit order of the update that writes it; `NOBODY` for an opening value.
     pub writer: u16,
-    /// The update that overwrites it.
+    /// The position in commit order of the update that overwrites it; `NOBODY` if none does.
     pub overwriter: u16,
 }
 
@@ -52,12 +53,13 @@ impl Version {
         self.link >> 1
     }
 
-    /// Returns whether its amount is less than its cost.
+    /// Returns whether the sweep has passed it and its amount is less than its cost. An opening value counts as having none:
+    /// no search visits it.
     pub fn has_residual(self) -> bool {
         self.link & 1 == 1
     }
 
-    /// Returns the version with the update that overwrites it.
+    /// Returns the version with its overwriter set.
     fn with_overwriter(self, overwriter: u16) -> Version {
         Version {
             amount: self.amount,
@@ -114,13 +116,13 @@ pub struct ProposedAmounts {
     current: Vec<CurrentVersion>,
 }
 
-/// Sums over the versions of one update, with one offset for each version.
+/// Sums over the versions of one update. Each sum includes the offset once for each version.
 #[derive(Clone, Copy)]
 struct Sums {
-    /// The sum of the amounts of the versions that it writes: what is to be distributed.
-    incoming: u64,
+    /// The sum of the amounts of the versions that it writes, to be distributed.
+    written_amounts: u64,
     /// The sum of the costs of the versions that it overwrites.
-    cost: u64,
+    overwritten_costs: u64,
     /// The number of the versions that it overwrites.
     count: u64,
 }
@@ -136,7 +138,7 @@ pub fn to_u16_or_nobody(i: usize) -> u16 {
 }
 
 impl ProposedAmounts {
-    /// Returns the versions before all updates, with capacity for the versions of these many updates.
+    /// Returns the versions before all updates, with capacity for the versions of this many updates.
     pub fn opening<M: Metric>(
         alloc: Global,
         history: &History<M>,
@@ -277,8 +279,8 @@ impl ProposedAmounts {
         update: u16,
     ) -> Result<(), AllocError>
         requires reads_in_range { AreReadsInRange values_read.now }
-        requires accesses { All (λ a. a.item.0 < length values_read.now) accesses.now }
-        requires values { All (λ a. IsValue a.value) accesses.now }
+        requires items_in_range { All (λ a. a.item.0 < length values_read.now) accesses.now }
+        requires values_in_range { All (λ a. IsValue a.value) accesses.now }
     {
         let first_version = to_u32_or_max(self.versions.len());
         self.starts.push(first_version)?;
@@ -295,7 +297,7 @@ impl ProposedAmounts {
         Ok(())
     }
 
-    /// Ends the list of versions, and gives the last version of each item its cost as its amount.
+    /// Ends the list of versions, and sets the amount of the last version of each item to its cost.
     pub fn init_amounts(&mut self) -> Result<(), AllocError> {
         let end = to_u32_or_max(self.versions.len());
         self.starts.push(end)?;
@@ -322,8 +324,8 @@ impl ProposedAmounts {
     /// Returns the sums of an update with these accesses.
     fn sums(&self, accesses: &[Access], first_version: u32) -> Sums {
         let mut sums = Sums {
-            incoming: 0,
-            cost: 0,
+            written_amounts: 0,
+            overwritten_costs: 0,
             count: 0,
         };
         let mut id = first_version;
@@ -331,10 +333,10 @@ impl ProposedAmounts {
             let version = self.version(id);
             if version.overwritten() != NONE {
                 sums = Sums {
-                    incoming: sums
-                        .incoming
+                    written_amounts: sums
+                        .written_amounts
                         .saturating_add(self.current_version(access.item).amount),
-                    cost: sums.cost.saturating_add(version.amount),
+                    overwritten_costs: sums.overwritten_costs.saturating_add(version.amount),
                     count: sums.count.saturating_add(1),
                 };
             }
@@ -361,7 +363,7 @@ impl ProposedAmounts {
         );
     }
 
-    /// Gives the versions that an update overwrites their costs as amounts.
+    /// Moves the sweep back past an update, and sets the amount of each version that it overwrites to its cost.
     fn fill(&mut self, accesses: &[Access], first_version: u32) {
         let mut id = first_version;
         for access in accesses {
@@ -373,7 +375,7 @@ impl ProposedAmounts {
         }
     }
 
-    /// Distributes an amount without offsets over the versions that an update overwrites, in
+    /// Moves the sweep back past an update, and distributes an amount without offsets over the versions that it overwrites, in
     /// proportion to their costs. The ratio is a fixed-point number in units of 2^-31.
     fn share(&mut self, accesses: &[Access], first_version: u32, net_amount: u64, ratio: u64) {
         let mut left = net_amount;
@@ -390,7 +392,7 @@ impl ProposedAmounts {
         self.share_rest(accesses, first_version, left);
     }
 
-    /// Distributes what the rounding of the ratio has left.
+    /// Distributes what rounding left over.
     fn share_rest(&mut self, accesses: &[Access], first_version: u32, rest: u64) {
         let mut left = rest;
         let mut id = first_version;
@@ -434,7 +436,7 @@ impl ProposedAmounts {
         self.set_version(id, version.with_amount(amount, true));
     }
 
-    /// Increases the amount of a version that the sweep has passed.
+    /// Increases the amount of a version that the sweep has passed. `cost` is its own, plus the offset.
     pub fn increase(&mut self, id: u32, more: u64, cost: u64) {
         let version = self.version(id);
         let amount = version.amount.saturating_add(more);
@@ -445,13 +447,13 @@ impl ProposedAmounts {
     pub fn distribute(&mut self, accesses: &[Access], update: u16) -> u64 {
         let first_version = self.first_version(update);
         let sums = self.sums(accesses, first_version);
-        if sums.cost <= sums.incoming {
+        if sums.overwritten_costs <= sums.written_amounts {
             self.fill(accesses, first_version);
-            return sums.incoming.saturating_sub(sums.cost);
+            return sums.written_amounts.saturating_sub(sums.overwritten_costs);
         }
         let offsets = sums.count.saturating_mul(OFFSET);
-        let net_amount = sums.incoming.saturating_sub(offsets);
-        let ratio = ratio_of(net_amount, sums.cost.saturating_sub(offsets));
+        let net_amount = sums.written_amounts.saturating_sub(offsets);
+        let ratio = ratio_of(net_amount, sums.overwritten_costs.saturating_sub(offsets));
         self.share(accesses, first_version, net_amount, ratio);
         0
     }
@@ -459,13 +461,13 @@ impl ProposedAmounts {
 
 /// Returns the ratio of an amount to a larger sum in units of 2^-31, rounded down.
 fn ratio_of(amount: u64, sum: u64) -> u64 {
-    let down = 32u32.saturating_sub(sum.leading_zeros());
-    let parts = (amount >> down).saturating_mul(1 << 31);
+    let shift = 32u32.saturating_sub(sum.leading_zeros());
+    let numerator = (amount >> shift).saturating_mul(1 << 31);
     // the divisor is rounded up, so the ratio is never too large
-    let Some(whole) = (sum >> down).checked_add(1) else {
+    let Some(divisor) = (sum >> shift).checked_add(1) else {
         return 0;
     };
-    parts / whole
+    numerator / divisor
 }
 
 /// Returns a cost times a ratio, rounded down.

@@ -1,5 +1,5 @@
 //! The columns of a ledger (a table with a row for each transaction of a history) as text and JSON, with the content of each
-//! cell. The functions are proved safe; tests compare the text.
+//! cell. Tests compare the table with `checks/reference.py`.
 
 use crate::csv::{kind_word, outcome_word};
 use crate::rows::Row;
@@ -9,7 +9,7 @@ use crate::words::Content;
 /// A column of the ledger.
 #[derive(Clone, Copy)]
 pub enum Column {
-    Number,
+    TxnNumber,
     Name,
     Kind,
     Limit,
@@ -22,13 +22,15 @@ pub enum Column {
     BlockedByExport,
     Outcome,
     Distance,
+    /// The number of the line that began the transaction.
     FirstLine,
+    /// The number of its last accepted or blocked line, or 0.
     LastLine,
 }
 
 /// All columns in their order, each with the name of its JSON field and its heading.
 pub const LEDGER_COLUMNS: [(Column, &str, &str); 15] = [
-    (Column::Number, "number", "number"),
+    (Column::TxnNumber, "number", "number"),
     (Column::Name, "name", "name"),
     (Column::Kind, "kind", "kind"),
     (Column::Limit, "limit", "limit"),
@@ -48,7 +50,7 @@ pub const LEDGER_COLUMNS: [(Column, &str, &str); 15] = [
 /// Returns the content of a row's cell.
 pub fn content_of<'a>(column: Column, name: &'a str, row: &Row, span: LineSpan) -> Content<'a> {
     match column {
-        Column::Number => Content::Number(u64::from(row.number.0)),
+        Column::TxnNumber => Content::Number(u64::from(row.number.0)),
         Column::Name => Content::Word(name),
         Column::Kind => Content::Word(kind_word(row.kind)),
         Column::Limit => Content::Number(row.limit),

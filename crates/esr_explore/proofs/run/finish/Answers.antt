@@ -1,5 +1,5 @@
 use Rattle.std.proofs.Common.{[], ◌∷◌, ◌++◌, ◌∙◌, ap, map, sym}
-use Rattle.esr_explore.specs.Turns.{RunState, run_state, turn}
+use Rattle.esr_explore.specs.Turns.{RunState, run_state, after_turn}
 use Rattle.esr_explore.proofs.Turning.{then_turn}
 use Rattle.esr_explore.proofs.run.finish.Goals as goal
 
@@ -12,7 +12,7 @@ loop-turn-preserved c =
       (
         rest ++ block ∷ [],
         c.in_ok-execute_turn.ensures.run_state
-            ∙ (ap (λ (s : RunState). turn blocks s block) c.loop-turn.invariant.1.1
+            ∙ (ap (λ (s : RunState). after_turn blocks s block) c.loop-turn.invariant.1.1
             ∙ sym (then_turn blocks (run_state c.args.machine.now c.args.all_progress.now.items) rest block)),
       ),
     )

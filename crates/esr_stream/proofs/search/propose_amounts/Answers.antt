@@ -5,12 +5,12 @@ use Rattle.esr_order.proofs.Accessed.{accesses_inside}
 use Rattle.esr_stream.proofs.StepLaws.{accesses_valued}
 use Rattle.esr_stream.proofs.search.propose_amounts.Goals as goal
 
-pub push_update-requires-clause-accesses : goal.push_update-requires-clause-accesses
-push_update-requires-clause-accesses g c =
+pub push_update-requires-clause-items_in_range : goal.push_update-requires-clause-items_in_range
+push_update-requires-clause-items_in_range g c =
     subst (λ l. All (λ (a : Access). a.item.0 < length c.args.values_read.now) l) (sym c.in_ok-accesses.ensures)
     (accesses_inside g.M.Metric.distance_by c.args.history.now.schedule c.log-invariant.ensures.legal _ (length c.args.values_read.now) c.requires.list_per_item)
 
-pub push_update-requires-clause-values : goal.push_update-requires-clause-values
-push_update-requires-clause-values g c =
+pub push_update-requires-clause-values_in_range : goal.push_update-requires-clause-values_in_range
+push_update-requires-clause-values_in_range g c =
     subst (λ l. All (λ (a : Access). IsValue a.value) l) (sym c.in_ok-accesses.ensures)
     (accesses_valued g.M.Metric.distance_by c.args.history.now.schedule c.log-invariant.ensures.range c.log-invariant.ensures.legal _)
