@@ -1,53 +1,106 @@
-//! The lock of a bank: a spin lock whose sleepers wait no longer than about a tenth of a millisecond.
+//! The lock of a bank: a spin lock that its last holder keeps for a short lease, and whose sleepers wait no longer than about
+//! a tenth of a millisecond.
 //!
-//! A transaction holds the lock for less than a microsecond, so a thread polls for a short time before it sleeps, and a
-//! thread that polls may overtake one that sleeps: waking a thread takes longer than many transactions. Without a limit
-//! sleepers would wait for many milliseconds. So a sleeper is woken when no thread polls or when it is overdue, and once it
-//! runs it is *urgent*: other threads do not try while it polls. The lock changes hands among running threads only, so it is
-//! never idle while a thread wakes up.
+//! A transaction holds the lock for less than a microsecond. If the next one is of another thread, the engine's data moves to
+//! the cache of another processor, which takes as long again. So a holder that leaves while other threads poll *reserves* the
+//! gate for itself: it enters again at once, and the others do not try. Its *lease* ends with the first hold after a poller
+//! has waited for 20 microseconds and requested the end (`poller`); then the gate is open, and threads enter in about the
+//! order of their arrival. The former owner is the last of them. A reservation that is not used for two microseconds is taken
+//! over. If the time between two holds of a thread is too long, leases are suspended (`trial`), and whoever comes first
+//! enters. Without pollers nothing is reserved, so a lone thread waits for no one. An update whose draft was stale reserves the
+//! gate in any case, since it has waited already and comes back as soon as its body has run ([`Guard::reserve`]).
+//!
+//! A thread polls for a short time before it sleeps, and a thread that polls may overtake one that sleeps: waking a thread
+//! takes longer than many transactions. Without a limit sleepers would wait for many milliseconds. So a sleeper is woken when
+//! no thread polls or when it is overdue, and once it runs it is *urgent*: nothing is reserved, and other threads do not try
+//! while it polls. The lock changes hands among running threads only, so it is never idle while a thread wakes up.
 //!
 //! [`Gate`] decides who enters. The value itself is in an ordinary mutex, which is always free for the thread that has
 //! entered, so the exclusion does not depend on this module.
 //!
-//! Wake-ups are not lost. A sleeper counts itself and then tries the gate; the holder opens the gate and then loads the
-//! count. Each stores and then loads what the other stores, and all four operations are sequentially consistent, a failed try
-//! too, so at least one sees the other. A sleeper that has run in vain marks, under the mutex of the queue, that it is not
-//! woken, and tries again: a holder that had found it marked as woken had opened the gate before, so this try succeeds or
-//! meets a later holder. A holder that leaves the gate to a polling thread relies on that thread, which enters, or sleeps by
-//! the same rule, or passes the duty on when it gives up. The other loads of the gate only decide when a thread tries, so
-//! they are relaxed. The tests try every schedule, and every store that a load may observe.
+//! Wake-ups are not lost. A sleeper counts itself and then tries the gate, which it also enters if it is reserved; the holder
+//! opens or reserves the gate and then loads the count. Each stores and then loads what the other stores, and all four
+//! operations are sequentially consistent, a failed try too, so at least one sees the other. A sleeper that has run in vain
+//! marks, under the mutex of the queue, that it is not woken, and tries again: a holder that had found it marked as woken had
+//! left before, so this try succeeds or meets a later holder. A holder that leaves the gate to a polling thread relies on that
+//! thread, which enters, or sleeps by the same rule, or passes the duty on when it gives up. Whether a thread polls is loaded
+//! again after the gate is left, so a thread that stops polling meanwhile is no longer relied on. The other loads of the gate
+//! only decide when a thread tries, so they are relaxed; that of a reserved state acquires its owner. The tests try every
+//! schedule, and every store that a load may observe.
+//!
+//! No thread starves. An owner gives way at its first hold after a request, or after [`MAX_HOLDS`] holds if the threads that
+//! poll were preempted, and then waits like the others. A thread that polls waits for the leases of those that came before
+//! it. One that sleeps is overdue after [`OVERDUE`], and each end of a lease wakes such a thread.
 //!
 //! A thread has one token for all that unparks it: the gate, the end of a blocker (`waits`) and free capacity. A sleeper may
 //! consume one that was for another purpose, so a thread that is to be woken must not take this lock between its registration
 //! and its own park (`bank::handle`). Each park has a timeout, which bounds the delay if it does.
 //!
-//! A holder that panics opens the gate as its guard is dropped.
+//! A holder that panics leaves the gate as its guard is dropped.
 //!
 //! Rejected: the standard mutex after a spin phase, whose 99.9th percentile is milliseconds when there are more threads than
 //! processors; handing the lock to a sleeper, which leaves it idle until that thread runs and then ends in a convoy (a
 //! seventh of the throughput); ticket and queue locks, which wait for preempted threads; combining, by which the holder
 //! executes the drafts of threads that poll: it gained nothing (`bench/RESULTS.md`), perhaps because their items are then in
-//! the cache of the holder, and the next holder is another thread.
+//! the cache of the holder, and the next holder is another thread; leases without pollers that look, which an idle owner
+//! keeps until their end; leases in any case, with which four threads whose bodies take three microseconds are as slow as one.
 
-use crate::sync::{AtomicU64, Instant, Thread, current, park_timeout, spin_loop};
+mod poller;
+#[cfg(test)]
+mod tests;
+mod trial;
+
+use crate::sync::{AtomicU64, Instant, Thread, current, park_timeout, spin_loop, thread_number};
+use poller::Poller;
 use std::{
     collections::VecDeque,
     ops::{Deref, DerefMut},
     sync::{Mutex, MutexGuard, PoisonError, atomic::Ordering},
     time::Duration,
 };
+use trial::Trial;
 
 /// The number of polls before a thread sleeps.
-const POLLS: u32 = if cfg!(test) { 1 } else { 100 };
-/// The number of polls for which a thread lets urgent ones go first. They may have been preempted.
-const POLITE_POLLS: u32 = if cfg!(test) { 1 } else { 50 };
+const MAX_POLLS: u32 = if cfg!(test) { 2 } else { 2_000 };
+/// A lease ends at each hold of which the number is a multiple of this.
+const MAX_HOLDS: u64 = 512;
+/// The number of polls of a thread that was woken, before it sleeps again.
+const URGENT_POLLS: u32 = if cfg!(test) { 1 } else { 100 };
 /// A sleeper that has waited longer is woken although other threads poll.
 const OVERDUE: Duration = Duration::from_micros(100);
 /// A sleeper tries by itself after this time. It is woken before, so this only limits the damage of a kernel that is late.
 const NAP: Duration = Duration::from_millis(50);
 
-const OPEN: u64 = 0;
-const TAKEN: u64 = 1;
+/// Who may enter.
+#[derive(Clone, Copy, PartialEq, Eq, Debug)]
+enum Kind {
+    Open,
+    Taken,
+    /// The owner, and any thread after some time.
+    Reserved,
+}
+
+/// The number of holds so far, and who may enter.
+#[derive(Clone, Copy, Default, PartialEq, Eq, Debug)]
+struct State(u64);
+
+impl State {
+    fn of(holds: u64, kind: Kind) -> State {
+        State(4 * holds + kind as u64)
+    }
+
+    fn holds(self) -> u64 {
+        self.0 / 4
+    }
+
+    fn kind(self) -> Kind {
+        match self.0 % 4 {
+            0 => Kind::Open,
+            1 => Kind::Taken,
+            _ => Kind::Reserved,
+        }
+    }
+}
 
 #[derive(Debug)]
 struct Sleeper {
@@ -62,16 +115,34 @@ struct Sleeper {
 #[repr(align(128))]
 struct Apart<T>(T);
 
+/// What holders change at each hold.
 #[derive(Debug, Default)]
-struct Gate {
-    /// Threads that poll read it, so it is apart from the counters that they write.
-    state: Apart<AtomicU64>,
-    /// The number of polling threads that are not urgent.
+struct Holding {
+    state: AtomicU64,
+    /// The thread for which the gate is reserved.
+    owner: AtomicU64,
+    trial: Trial,
+}
+
+/// What waiting threads change.
+#[derive(Debug, Default)]
+struct Waiting {
+    /// The number of polling threads that were not woken.
     polling: AtomicU64,
-    /// The number of polling threads that were woken.
+    /// The number of polling threads that were woken, and of threads with priority.
     urgent: AtomicU64,
     /// The number of sleepers in the queue.
     sleeping: AtomicU64,
+    /// One more than the lease whose end was requested last.
+    requested: AtomicU64,
+}
+
+#[derive(Debug, Default)]
+struct Gate {
+    holding: Apart<Holding>,
+    /// The number of leases that have ended. Threads poll it.
+    leases: Apart<AtomicU64>,
+    waiting: Apart<Waiting>,
     queue: Mutex<Queue>,
 }
 
@@ -82,46 +153,136 @@ struct Queue {
     ids: u64,
 }
 
+/// How a thread leaves.
+#[derive(Clone, Copy, PartialEq, Eq, Debug)]
+enum Leave {
+    Usual,
+    /// It enters again soon, and has waited for that.
+    ToReturn,
+}
+
+/// Entering.
 impl Gate {
     fn queue(&self) -> MutexGuard<'_, Queue> {
         self.queue.lock().unwrap_or_else(PoisonError::into_inner)
     }
 
+    fn state(&self, order: Ordering) -> State {
+        State(self.holding.0.state.load(order))
+    }
+
+    fn leases(&self) -> u64 {
+        self.leases.0.load(Ordering::Relaxed)
+    }
+
+    fn has_urgent(&self) -> bool {
+        self.waiting.0.urgent.load(Ordering::Relaxed) > 0
+    }
+
+    fn replace(&self, old: State, new: State) -> Result<(), State> {
+        let state = &self.holding.0.state;
+        let found = state.compare_exchange(old.0, new.0, Ordering::SeqCst, Ordering::SeqCst);
+        found.map(drop).map_err(State)
+    }
+
+    /// Tries to enter a gate that was seen in a state. Fails with the state that it is in.
+    fn take(&self, seen: State) -> Result<(), State> {
+        self.replace(seen, State::of(seen.holds() + 1, Kind::Taken))
+    }
+
+    /// Tries to enter a gate that was seen reserved for another thread.
+    fn take_over(&self, seen: State) -> Result<(), State> {
+        self.take(seen)?;
+        self.holding.0.trial.doubt(seen.holds());
+        self.end_lease();
+        Ok(())
+    }
+
+    fn end_lease(&self) {
+        self.leases.0.fetch_add(1, Ordering::Relaxed);
+    }
+
+    /// Requests the end of a lease, the `lease`th from 0.
+    fn request_end(&self, lease: u64) {
+        let requested = &self.waiting.0.requested;
+        if requested.load(Ordering::Relaxed) != lease + 1 {
+            requested.store(lease + 1, Ordering::Relaxed);
+        }
+    }
+
+    /// Tries to enter, also if the gate is reserved for another thread.
     fn try_enter(&self) -> bool {
-        self.state
-            .0
-            .compare_exchange(OPEN, TAKEN, Ordering::SeqCst, Ordering::SeqCst)
-            .is_ok()
+        let mut seen = self.state(Ordering::Relaxed);
+        loop {
+            let taken = match seen.kind() {
+                Kind::Reserved => self.take_over(seen),
+                // one that is taken fails here, by a load that is sequentially consistent
+                _ => self.take(State::of(seen.holds(), Kind::Open)),
+            };
+            match taken {
+                Ok(()) => return true,
+                Err(other) if other.kind() == Kind::Taken => return false,
+                Err(other) => seen = other,
+            }
+        }
     }
 
-    fn is_open(&self) -> bool {
-        self.state.0.load(Ordering::Relaxed) == OPEN
+    fn is_mine(&self, seen: State) -> bool {
+        let owner = &self.holding.0.owner;
+        seen.kind() == Kind::Reserved && owner.load(Ordering::Relaxed) == thread_number()
     }
 
-    /// Enters, or returns false as soon as `is_useful` does while polling. With `has_priority` it does not let urgent threads
-    /// go first.
+    /// Tries to enter a gate that is reserved for this thread, or open without threads that go first.
+    fn try_at_once(&self, has_priority: bool) -> bool {
+        let seen = self.state(Ordering::Acquire);
+        let trial = &self.holding.0.trial;
+        let may_try = match seen.kind() {
+            Kind::Open => {
+                let polling = &self.waiting.0.polling;
+                has_priority
+                    || polling.load(Ordering::Relaxed) == 0
+                    || trial.is_suspended(seen.holds())
+            }
+            Kind::Reserved => self.is_mine(seen),
+            Kind::Taken => false,
+        };
+        if !may_try || (!has_priority && self.has_urgent()) || self.take(seen).is_err() {
+            return false;
+        }
+        if seen.kind() == Kind::Reserved {
+            trial.enter();
+        }
+        true
+    }
+
+    /// Enters, or returns false if leases are suspended and `is_useful` returns false while polling. With `has_priority` it
+    /// does not let other threads go first.
     fn enter(&self, has_priority: bool, is_useful: impl Fn() -> bool) -> bool {
-        let may_try = || has_priority || self.urgent.load(Ordering::Relaxed) == 0;
-        if self.is_open() && may_try() && self.try_enter() {
+        if self.try_at_once(has_priority) {
             return true;
         }
-        self.polling.fetch_add(1, Ordering::SeqCst);
-        for poll in 0..POLLS {
-            if self.is_open() && (poll >= POLITE_POLLS || may_try()) && self.try_enter() {
-                self.polling.fetch_sub(1, Ordering::SeqCst);
+        let polling = &self.waiting.0.polling;
+        polling.fetch_add(1, Ordering::SeqCst);
+        let mut poller = Poller::of(self, has_priority);
+        for _ in 0..MAX_POLLS {
+            if poller.poll() {
+                polling.fetch_sub(1, Ordering::SeqCst);
                 return true;
             }
-            if !is_useful() {
-                self.polling.fetch_sub(1, Ordering::SeqCst);
+            if poller.is_suspended() && !is_useful() {
+                polling.fetch_sub(1, Ordering::SeqCst);
                 // a holder may have relied on this thread
-                if self.state.0.load(Ordering::SeqCst) == OPEN {
+                if self.state(Ordering::SeqCst).kind() != Kind::Taken {
                     self.wake();
                 }
                 return false;
             }
+            if poller.is_tired() {
+                break;
+            }
             pause();
         }
-        self.polling.fetch_sub(1, Ordering::SeqCst);
+        polling.fetch_sub(1, Ordering::SeqCst);
         self.sleep();
         true
     }
@@ -139,7 +300,7 @@ impl Gate {
             });
             id
         };
-        self.sleeping.fetch_add(1, Ordering::SeqCst);
+        self.waiting.0.sleeping.fetch_add(1, Ordering::SeqCst);
         while !self.try_enter() {
             park_timeout(NAP);
             if self.enter_urgently() {
@@ -151,33 +312,88 @@ impl Gate {
             mine.expect("it is in the queue").is_woken = false;
         }
         self.queue().sleepers.retain(|sleeper| sleeper.id != id);
-        self.sleeping.fetch_sub(1, Ordering::SeqCst);
+        self.waiting.0.sleeping.fetch_sub(1, Ordering::SeqCst);
     }
 
     fn enter_urgently(&self) -> bool {
-        self.urgent.fetch_add(1, Ordering::SeqCst);
-        let has_entered = (0..POLLS).any(|_| {
-            let has_entered = self.is_open() && self.try_enter();
+        let urgent = &self.waiting.0.urgent;
+        urgent.fetch_add(1, Ordering::SeqCst);
+        let has_entered = (0..URGENT_POLLS).any(|_| {
+            let is_free = self.state(Ordering::Relaxed).kind() != Kind::Taken;
+            let has_entered = is_free && self.try_enter();
             if !has_entered {
                 pause();
             }
             has_entered
         });
-        self.urgent.fetch_sub(1, Ordering::SeqCst);
+        urgent.fetch_sub(1, Ordering::SeqCst);
         has_entered
     }
+}
 
-    fn leave(&self) {
-        self.state.0.swap(OPEN, Ordering::SeqCst);
+/// Leaving.
+impl Gate {
+    /// Reports whether the holder keeps its lease.
+    fn keeps_lease(&self, leave: Leave, holds: u64, is_contended: bool) -> bool {
+        let requested = &self.waiting.0.requested;
+        !self.has_urgent()
+            && (leave == Leave::ToReturn
+                || (is_contended
+                    && !self.holding.0.trial.is_suspended(holds)
+                    && requested.load(Ordering::Relaxed) != self.leases() + 1
+                    && holds % MAX_HOLDS != 0))
+    }
+
+    fn leave(&self, leave: Leave) {
+        let Holding { state, trial, .. } = &self.holding.0;
+        let holds = self.state(Ordering::Relaxed).holds();
+        let is_contended = self.waiting.0.polling.load(Ordering::SeqCst) > 0;
+        let was_suspended = trial.is_suspended(holds);
+        trial.leave(holds);
+        if self.keeps_lease(leave, holds, is_contended) {
+            return self.reserve(holds, leave);
+        }
+        state.swap(State::of(holds, Kind::Open).0, Ordering::SeqCst);
+        if is_contended && !was_suspended {
+            self.end_lease();
+        }
         self.wake();
+    }
+
+    fn reserve(&self, holds: u64, leave: Leave) {
+        let Holding {
+            state,
+            owner,
+            trial,
+        } = &self.holding.0;
+        let me = thread_number();
+        let is_new_owner = owner.load(Ordering::Relaxed) != me;
+        if is_new_owner {
+            owner.store(me, Ordering::Relaxed);
+        }
+        trial.reserve(holds, is_new_owner && leave == Leave::Usual);
+        state.swap(State::of(holds, Kind::Reserved).0, Ordering::SeqCst);
+        if self.waiting.0.polling.load(Ordering::SeqCst) == 0 {
+            self.wake();
+        }
+    }
+
+    /// Opens the gate if it is reserved for this thread. Nothing was left to this thread, so it need not wake any.
+    fn give_up_lease(&self) {
+        let seen = self.state(Ordering::Acquire);
+        let open = State::of(seen.holds(), Kind::Open);
+        if self.is_mine(seen) && self.replace(seen, open).is_ok() {
+            self.end_lease();
+        }
     }
 
     /// Wakes the first sleeper, if no thread polls or it is overdue.
     fn wake(&self) {
-        if self.sleeping.load(Ordering::SeqCst) == 0 {
+        let waiting = &self.waiting.0;
+        if waiting.sleeping.load(Ordering::SeqCst) == 0 {
             return;
         }
-        let is_idle = self.polling.load(Ordering::SeqCst) == 0;
+        let is_idle = waiting.polling.load(Ordering::SeqCst) == 0;
         let mut queue = self.queue();
         if let Some(first) = queue.sleepers.front_mut() {
             let is_due = is_idle || first.since.elapsed() >= OVERDUE;
@@ -220,11 +436,21 @@ impl<T> Lock<T> {
 
     /// Makes the calling thread urgent until the result is dropped.
     pub(crate) fn priority(&self) -> Priority<'_> {
-        self.gate.urgent.fetch_add(1, Ordering::SeqCst);
+        self.gate.waiting.0.urgent.fetch_add(1, Ordering::SeqCst);
         Priority(&self.gate)
     }
 
-    /// Takes the lock, or returns `None` as soon as `is_useful` returns false while this thread polls.
+    /// Ends the lease of this thread, which does not take the lock soon.
+    pub(crate) fn give_up_lease(&self) {
+        self.gate.give_up_lease();
+    }
+
+    #[cfg(test)]
+    pub(crate) fn is_reserved(&self) -> bool {
+        self.gate.state(Ordering::SeqCst).kind() == Kind::Reserved
+    }
+
+    /// Takes the lock. May return `None` after `is_useful` has returned false while this thread polls.
     pub(crate) fn lock_while(
         &self,
         priority: Option<&Priority<'_>>,
@@ -244,24 +470,33 @@ impl<T> Lock<T> {
         };
         Some(Guard {
             gate: &self.gate,
+            leave: Leave::Usual,
             value: Some(value),
         })
     }
 }
 
-/// The priority of a thread: while it lasts, other threads that poll let urgent ones go first.
+/// The priority of a thread: while it lasts, nothing is reserved, and other threads that poll let urgent ones go first.
 pub(crate) struct Priority<'a>(&'a Gate);
 
 impl Drop for Priority<'_> {
     fn drop(&mut self) {
-        self.0.urgent.fetch_sub(1, Ordering::SeqCst);
+        self.0.waiting.0.urgent.fetch_sub(1, Ordering::SeqCst);
     }
 }
 
 /// A hold of a [`Lock`].
 pub(crate) struct Guard<'a, T> {
     gate: &'a Gate,
+    leave: Leave,
     value: Option<MutexGuard<'a, T>>,
+}
+
+impl<T> Guard<'_, T> {
+    /// Releases the lock, and reserves it for this thread, which takes it again soon.
+    pub(crate) fn reserve(mut self) {
+        self.leave = Leave::ToReturn;
+    }
 }
 
 impl<T> Deref for Guard<'_, T> {
@@ -281,83 +516,6 @@ impl<T> DerefMut for Guard<'_, T> {
 impl<T> Drop for Guard<'_, T> {
     fn drop(&mut self) {
         self.value = None;
-        self.gate.leave();
-    }
-}
-
-#[cfg(test)]
-mod tests {
-    use super::*;
-    use crate::interleave::{Depth, explore};
-    use std::sync::Arc;
-
-    /// In every schedule threads exclude each other and lose nothing, and none is woken by its timeout alone.
-    #[test]
-    fn the_lock_excludes_and_wakes() {
-        let body: fn(&Lock<u64>) = |lock| {
-            for _ in 0..2 {
-                let mut value = lock.lock();
-                // scheduling points of a long hold
-                for _ in 0..2 {
-                    lock.gate.state.0.load(Ordering::SeqCst);
-                }
-                *value += 1;
-            }
-        };
-        let test = || (Arc::new(Lock::new(0)), vec![body; 2]);
-        let runs = explore(Depth::coarse(4), test, |lock, now| {
-            assert_eq!(*lock.value.lock().unwrap(), 4);
-            assert!(now < NAP, "a wake-up was lost");
-        });
-        println!("{runs} schedules of two threads");
-        let once: fn(&Lock<u64>) = |lock| *lock.lock() += 1;
-        // a thread that gives up while another one relied on it
-        let fickle: fn(&Lock<u64>) = |lock| {
-            if let Some(mut value) = lock.lock_while(None, || false) {
-                *value += 1;
-            }
-        };
-        let test = || (Arc::new(Lock::new(0)), vec![once, once, fickle]);
-        let runs = explore(Depth::coarse(3), test, |lock, now| {
-            assert!((2..=3).contains(&*lock.value.lock().unwrap()));
-            assert!(now < NAP, "a wake-up was lost");
-        });
-        println!("{runs} schedules of three threads");
-    }
-
-    /// For every store that a load may observe, no wake-up is lost.
-    #[test]
-    fn no_order_of_memory_loses_a_wakeup() {
-        let once: fn(&Lock<u64>) = |lock| *lock.lock() += 1;
-        let fickle: fn(&Lock<u64>) = |lock| _ = lock.lock_while(None, || false);
-        for (threads, switches) in [(vec![once; 2], 3), (vec![once, once, fickle], 1)] {
-            let test = || (Arc::new(Lock::new(0)), threads.clone());
-            let runs = explore(Depth::fine(switches), test, |lock, now| {
-                assert_eq!(*lock.value.lock().unwrap(), 2);
-                assert!(now < NAP, "a wake-up was lost");
-            });
-            println!("{runs} schedules of {} threads", threads.len());
-        }
-    }
-
-    /// A sleeper that is overdue gets the lock although two other threads take it all the time.
-    #[test]
-    fn an_overdue_sleeper_is_next() {
-        let (lock, ended) = (Lock::new(0_u64), AtomicU64::new(0));
-        std::thread::scope(|threads| {
-            for _ in 0..2 {
-                threads.spawn(|| {
-                    while ended.load(Ordering::SeqCst) == 0 {
-                        *lock.lock() += 1;
-                    }
-                });
-            }
-            for _ in 0..100 {
-                lock.gate.sleep();
-                lock.gate.leave();
-            }
-            ended.store(1, Ordering::SeqCst);
-        });
-        assert!(lock.gate.queue().sleepers.is_empty());
+        self.gate.leave(self.leave);
     }
 }

@@ -689,6 +689,24 @@ pub(crate) fn spin_loop() {
     }
 }
 
+/// Returns the time since some moment, which is the same one for all threads.
+pub(crate) fn nanoseconds() -> u64 {
+    static START: std::sync::LazyLock<time::Instant> = std::sync::LazyLock::new(time::Instant::now);
+    let time = match simulated() {
+        Some((run, _)) => run.lock().now,
+        None => START.elapsed(),
+    };
+    time.as_nanos() as u64
+}
+
+/// Returns a number that no other running thread has.
+pub(crate) fn thread_number() -> u64 {
+    if let Some((_, me)) = simulated() {
+        return me as u64 + 1;
+    }
+    SIM.with(|sim| std::ptr::from_ref(sim).addr() as u64)
+}
+
 /// Returns a number that differs from call to call; the same one each time in a simulation, which must be repeatable.
 pub(crate) fn uniform_draw() -> u64 {
     use std::hash::{BuildHasher, Hasher};

@@ -5,8 +5,8 @@
 
 #[cfg(test)]
 pub(crate) use crate::interleave::{
-    AtomicI64, AtomicU64, Instant, Thread, current, fence, park_timeout, sleep, spin_loop,
-    uniform_draw, yield_now,
+    AtomicI64, AtomicU64, Instant, Thread, current, fence, nanoseconds, park_timeout, sleep,
+    spin_loop, thread_number, uniform_draw, yield_now,
 };
 #[cfg(not(test))]
 pub(crate) use real::*;
@@ -19,6 +19,18 @@ mod real {
         thread::{Thread, current, park_timeout, sleep, yield_now},
         time::Instant,
     };
+
+    /// Returns the time since some moment, which is the same one for all threads.
+    pub(crate) fn nanoseconds() -> u64 {
+        static START: std::sync::LazyLock<Instant> = std::sync::LazyLock::new(Instant::now);
+        START.elapsed().as_nanos() as u64
+    }
+
+    /// Returns a number that no other running thread has.
+    pub(crate) fn thread_number() -> u64 {
+        std::thread_local!(static HERE: u8 = const { 0 });
+        HERE.with(|here| std::ptr::from_ref(here).addr() as u64)
+    }
 
     /// Returns a number that differs from call to call and from thread to thread.
     pub(crate) fn uniform_draw() -> u64 {

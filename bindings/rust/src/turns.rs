@@ -115,11 +115,12 @@ thread_local! {
     static MINE: RefCell<Turn> = RefCell::new(Turn::of_thread(THREADS.fetch_add(1, Ordering::Relaxed)));
 }
 
-/// Begins an update of this thread, which may yield first.
-pub(crate) fn begin_update() {
+/// Begins an update of this thread, which may call `before_yield` and yield first.
+pub(crate) fn begin_update(before_yield: impl FnOnce()) {
     MINE.with_borrow_mut(|turn| {
         turn.updates += 1;
         if turn.updates % LOOK == 0 && turn.end(START.elapsed(), &CROWD, *PROCESSORS) {
+            before_yield();
             yield_now();
             turn.begin(START.elapsed());
         }
@@ -133,6 +134,17 @@ pub(crate) mod tests {
     /// Returns the number of updates in this thread's turn.
     pub(crate) fn updates() -> u32 {
         MINE.with_borrow(|turn| turn.updates)
+    }
+
+    /// Lets this thread yield when it begins its next update. From then on there seem to be too many busy threads.
+    pub(crate) fn end_turn() {
+        CROWD.period.store(u64::MAX, Ordering::Relaxed);
+        CROWD.threads.store(1_000, Ordering::Relaxed);
+        MINE.with_borrow_mut(|turn| {
+            turn.begin(START.elapsed());
+            turn.updates = 100 * LOOK - 1;
+        });
+        thread::sleep(TURN);
     }
 
     /// Lets threads execute updates that take a time each, for some milliseconds from a time on. Returns the number of yields

@@ -2,7 +2,8 @@
 //!
 //! The argument why such an update is an ordinary transaction is at the head of `mirror`. This module decides what follows a
 //! run. A draft whose reads are no longer current is dropped, without a submission if that is known before, and the body runs
-//! again; after some such runs a short body gets priority for the lock, and after [`MAX_RERUNS`] the update runs step by step.
+//! again. If it has taken the lock by then, it reserves the lock, so that no other update overtakes a short body again; after
+//! some such runs a short body gets priority for the lock, and after [`MAX_RERUNS`] the update runs step by step.
 //! A draft that meets a lock is aborted, and the body runs again after the end of the transaction that holds it, at most
 //! [`MAX_BLOCKED`] times. A draft that meets a limit or the end of the history is aborted, and the update runs step by step:
 //! in that form it can wait for the end of a report, or for a renewal. So the number of optimistic runs is bounded, and each
@@ -103,6 +104,7 @@ impl Bank {
         }
         // no one else publishes during the hold: a draft that is not stale now has read the engine's committed values
         if draft.is_stale(&self.mirror) {
+            state.reserve();
             return Ok(Outcome::Stale);
         }
         // transactions are numbered in the order of their begins
@@ -231,7 +233,7 @@ impl Bank {
         if let Err(stopped) = self.check_running() {
             return Some(Err(stopped.into()));
         }
-        turns::begin_update();
+        turns::begin_update(|| self.state.give_up_lease());
         let mut draft = Draft::take();
         let (mut reruns, mut blocked) = (0, 0);
         let mut last = Duration::MAX;

@@ -9,9 +9,9 @@
 //! that wants to begin renews the engine and carries the active transactions over (`state`). Every active transaction is owned
 //! by a handle whose drop aborts it.
 //!
-//! A bank is fastest while one thread uses it for some time: then the engine is in the cache of one processor. So an item
-//! that becomes free is not reserved for a waiter, which would leave it idle until that thread runs; the first thread to
-//! come takes it.
+//! A bank is fastest while one thread uses it for some time: then the engine is in the cache of one processor. So the lock is
+//! kept by its last holder for a short lease (`gate`). An item that becomes free is not reserved for a waiter, which would
+//! leave it idle until that thread runs; the first thread to come takes it.
 //!
 //! With a store (`store`) the engine is ahead of it by the updates in a queue. A call that returns something of them waits
 //! until the store has them; `value` and `snapshot` return the store's values without waiting. An update enters the queue

@@ -51,6 +51,44 @@ fn values(bank: &Bank) -> (i64, i64) {
     (values[0], values[1])
 }
 
+/// An update whose draft is stale reserves the lock while its body runs again.
+#[test]
+fn a_stale_draft_reserves_the_lock() {
+    let bank = bank(0);
+    let mut runs = 0;
+    let body = |update: &mut BankUpdate<'_, '_>| {
+        runs += 1;
+        let value = update.read("a")?;
+        if runs == 1 {
+            thread::scope(|scope| {
+                let other = scope.spawn(|| bank.transact(0, |other| other.write("a", 30)));
+                other.join().expect("no panic")
+            })?;
+        }
+        assert_eq!(bank.state.is_reserved(), runs == 2);
+        update.write("a", value + 1)
+    };
+    bank.transact(0, body).expect("it commits");
+    assert_eq!((runs, bank.value("a")), (2, Ok(31)));
+}
+
+/// A thread that yields its processor ends its lease before.
+#[test]
+fn a_thread_that_yields_ends_its_lease() {
+    let bank = bank(0);
+    for is_kept in [true, false] {
+        bank.lock().reserve();
+        if !is_kept {
+            turns::tests::end_turn();
+        }
+        let body = |update: &mut BankUpdate<'_, '_>| {
+            assert_eq!(bank.state.is_reserved(), is_kept);
+            update.write("a", 1)
+        };
+        bank.transact(0, body).expect("it commits");
+    }
+}
+
 /// Checks the end of a run: nothing is active, and no thread waited for its timeout.
 fn check_end(bank: &Bank, now: Duration, max: Duration) {
     assert_eq!(

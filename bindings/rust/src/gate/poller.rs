@@ -1,0 +1,118 @@
+//! A thread that polls for a gate: when it looks, when it tries, and when it requests the end of a lease.
+//!
+//! A look at the state takes its cache line away from the owner. So a thread polls the number of leases, which changes only
+//! when an owner opens the gate, and looks at the state after a change, and otherwise seldom: the one that is next every
+//! [`LOOK`], others less often. An open gate is entered in the order of arrival, roughly: a thread waits for as many polls as
+//! others may have arrived before it. It needs no queue for that: a thread that was preempted meanwhile does not keep others
+//! out.
+
+use super::{Gate, Kind, State};
+use crate::sync::nanoseconds;
+use std::sync::atomic::Ordering;
+
+/// A lease ends on request after this time in nanoseconds.
+const LEASE: u64 = if cfg!(test) { 0 } else { 20_000 };
+/// A reservation that is not used for this time in nanoseconds is taken over.
+const LOOK: u64 = if cfg!(test) { 1 } else { 2_000 };
+/// The number of polls in one lease before a thread sleeps.
+const POLLS: u32 = if cfg!(test) { 1 } else { 300 };
+/// The number of polls for which a thread lets urgent ones go first. They may have been preempted.
+const POLITE_POLLS: u32 = if cfg!(test) { 1 } else { 50 };
+/// The largest number of polls for which a thread lets earlier ones go first.
+const MAX_RANK: u64 = 4;
+
+pub(super) struct Poller<'a> {
+    gate: &'a Gate,
+    has_priority: bool,
+    /// The number of leases when it arrived.
+    arrived: u64,
+    /// The number of leases now, since when, and the number of polls since then.
+    lease: u64,
+    since: u64,
+    polls: u32,
+    /// The state at the last look, since when, and the number of looks since then.
+    seen: State,
+    seen_since: u64,
+    looks: u64,
+    next_look: u64,
+    is_suspended: bool,
+}
+
+impl Poller<'_> {
+    pub(super) fn of(gate: &Gate, has_priority: bool) -> Poller<'_> {
+        let (lease, now) = (gate.leases(), nanoseconds());
+        Poller {
+            gate,
+            has_priority,
+            arrived: lease,
+            lease,
+            since: now,
+            polls: 0,
+            seen: State::default(),
+            seen_since: now,
+            looks: 0,
+            next_look: now,
+            is_suspended: false,
+        }
+    }
+
+    /// Reports whether leases are suspended, so that the gate is entered by whoever comes first.
+    pub(super) fn is_suspended(&self) -> bool {
+        self.is_suspended
+    }
+
+    /// Reports whether it has polled in one lease for as long as is sensible.
+    pub(super) fn is_tired(&self) -> bool {
+        self.polls >= POLLS
+    }
+
+    /// Polls once. Reports whether it has entered.
+    pub(super) fn poll(&mut self) -> bool {
+        let (lease, now) = (self.gate.leases(), nanoseconds());
+        if lease != self.lease {
+            (self.lease, self.since, self.polls) = (lease, now, 0);
+            return self.look(now);
+        }
+        self.polls += 1;
+        if now >= self.since + LEASE {
+            self.gate.request_end(lease);
+        }
+        let is_open = self.seen.kind() == Kind::Open;
+        (is_open || self.is_suspended || now >= self.next_look) && self.look(now)
+    }
+
+    /// Returns the number of threads that go first.
+    fn rank(&self) -> u64 {
+        let polling = self.gate.waiting.0.polling.load(Ordering::Relaxed);
+        let age = self.lease - self.arrived;
+        let is_first = self.has_priority || self.is_suspended || polling <= 1;
+        if is_first {
+            0
+        } else {
+            polling.saturating_sub(age).min(MAX_RANK)
+        }
+    }
+
+    /// Looks at the state, and tries to enter if it is this thread's turn.
+    pub(super) fn look(&mut self, now: u64) -> bool {
+        let seen = self.gate.state(Ordering::Acquire);
+        if seen == self.seen {
+            self.looks += 1;
+        } else {
+            (self.seen, self.seen_since, self.looks) = (seen, now, 0);
+        }
+        self.is_suspended = self.gate.holding.0.trial.is_suspended(seen.holds());
+        let rank = self.rank();
+        self.next_look = now + LOOK * (1 + rank);
+        let is_urgent_first =
+            !self.has_priority && self.polls < POLITE_POLLS && self.gate.has_urgent();
+        if is_urgent_first {
+            return false;
+        }
+        match seen.kind() {
+            Kind::Open => self.looks >= rank && self.gate.take(seen).is_ok(),
+            Kind::Reserved => now >= self.seen_since + LOOK && self.gate.take_over(seen).is_ok(),
+            Kind::Taken => false,
+        }
+    }
+}
