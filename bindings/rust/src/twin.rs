@@ -13,10 +13,12 @@
 //!
 //! The thread and the second engine start when the first report of the bank begins, so a bank without reports does not pay
 //! for them. They need the history from its opening. So each history is logged from there, but without a thread only up to
-//! [`MAX_LOGGED`] entries; a longer log is dropped. If the first report finds no log, the bank is renewed before the report
-//! begins, and the log restarts with the new history. No report is active then that this renewal could make inexact. Once the
-//! thread runs, each history is logged as a whole: at most 16 MB. If the thread cannot be started, or this renewal fails,
-//! nothing is logged until the next renewal, and audits hold the lock: neither is tried twice in a history.
+//! [`MAX_LOGGED`] entries; a longer log is dropped. With a thread a history is logged as a whole: at most 16 MB. After
+//! [`QUIET`] histories in which no report began, a history is not logged at all: a report that is carried into it is not
+//! audited, and the log costs a fifteenth of the throughput. If a report begins and finds no log, the bank is renewed first,
+//! and the log restarts with the new history. This renewal makes no report inexact: each active one was carried before. If the
+//! thread cannot be started, or this renewal fails, nothing is logged until the next renewal, and audits hold the lock:
+//! neither is tried twice in a history.
 //!
 //! The thread sleeps until a report begins. At a renewal without pending audits the log is dropped, and the second engine
 //! restarts from the values; with pending ones, the logs of both histories are kept until they are made.
@@ -43,6 +45,9 @@ const ROOM: usize = 64;
 /// A log without a thread is dropped when it has this number of entries. The larger it is, the fewer banks are renewed before
 /// their first report; this one takes 1 MB, and is a fifteenth of the longest history.
 pub(crate) const MAX_LOGGED: usize = 16 * PART;
+/// After this number of histories in which no report began nothing is logged. The larger it is, the fewer banks with rare
+/// reports are renewed for them.
+pub(crate) const QUIET: u32 = 4;
 /// The number of unused parts that are kept for their memory.
 const SPARE: usize = 256;
 
@@ -89,7 +94,7 @@ impl Between {
 enum Log {
     /// All of it.
     Whole,
-    /// Nothing more: the log was too long, and is dropped. The bank is renewed before a report begins.
+    /// Nothing more: the log was too long, or no report has begun for some time. The bank is renewed before a report begins.
     Dropped,
     /// Nothing more, although a report has begun.
     Missed,
@@ -103,6 +108,12 @@ pub(crate) struct Feed {
     /// The number of entries of this history that were handed over.
     handed_over: usize,
     has_thread: bool,
+    /// Whether each history is logged as a whole.
+    is_always: bool,
+    /// Whether a report has begun in this history.
+    has_report: bool,
+    /// The number of earlier histories since the last one in which a report began.
+    quiet: u32,
 }
 
 impl Feed {
@@ -144,7 +155,7 @@ impl Feed {
         }
     }
 
-    /// Drops the log, and logs nothing more of this history. No audit is pending.
+    /// Drops the log, and logs nothing more of this history. No audit of it is pending.
     fn stop(&mut self, log: Log) {
         self.log = log;
         self.entries.clear();
@@ -152,13 +163,20 @@ impl Feed {
         self.between.lock().clear();
     }
 
+    /// Starts the thread by `start`, and logs each history from now on.
+    pub(crate) fn start_always(&mut self, start: impl FnOnce() -> bool) {
+        self.has_thread = start();
+        self.is_always = true;
+    }
+
     /// Prepares for a report that begins: `start` starts the thread, if it does not run. Reports whether the bank is renewed
-    /// first, because the log of this history was dropped.
+    /// first, because this history is not logged.
     pub(crate) fn begin_report(&mut self, start: impl FnOnce() -> bool) -> bool {
-        if self.has_thread || self.log == Log::Missed {
+        self.has_report = true;
+        if self.log == Log::Missed || self.can_audit() {
             return false;
         }
-        self.has_thread = start();
+        self.has_thread = self.has_thread || start();
         let was_dropped = self.log == Log::Dropped;
         if was_dropped || !self.has_thread {
             // whatever comes of it, it is not tried again in this history
@@ -193,16 +211,19 @@ impl Feed {
         receiver
     }
 
-    /// Restarts the log with a history of these opening values.
+    /// Restarts the log with a history of these opening values, unless no report has begun for some time.
     pub(crate) fn renew(&mut self, values: Vec<i64>) {
+        self.quiet = if self.has_report { 0 } else { self.quiet + 1 };
+        self.has_report = false;
         self.entries.clear();
-        self.log = Log::Whole;
         self.handed_over = 0;
         let mut queue = self.between.lock();
-        if queue.audits == 0 {
-            queue.clear();
+        queue.clear();
+        self.log = Log::Dropped;
+        if self.quiet <= QUIET || self.is_always {
+            self.log = Log::Whole;
+            queue.add(Part::Renewed(values));
         }
-        queue.add(Part::Renewed(values));
     }
 }
 
@@ -216,8 +237,11 @@ impl Queue {
         self.parts.push_back(part);
     }
 
-    /// Removes all parts, and keeps their memory. No audit is among them.
+    /// Removes all parts, and keeps their memory, unless an audit is pending, which needs them.
     fn clear(&mut self) {
+        if self.audits > 0 {
+            return;
+        }
         for part in mem::take(&mut self.parts) {
             self.keep(part);
         }
@@ -258,6 +282,9 @@ impl Twin {
             log: Log::Whole,
             handed_over: 0,
             has_thread: false,
+            is_always: false,
+            has_report: true,
+            quiet: 0,
         };
         feed.renew(opening.to_vec());
         let twin = Twin {
@@ -438,6 +465,48 @@ pub(crate) mod tests {
         feed.renew(vec![500]);
         let finding = audit(&twin, &mut feed, 400).expect("it agrees");
         assert_eq!((finding.distance, finding.import), (100, 100));
+    }
+
+    /// A history is not logged if no report has begun for some time, until the bank is renewed for one. No pending audit is lost.
+    #[test]
+    fn quiet_histories_are_not_logged() {
+        let (twin, mut feed) = opened();
+        for _ in 0..2 {
+            feed.push(6, 1, 0, 100);
+            feed.push(4, 1, 0, 0);
+            let pending = feed.ask(Txn(1));
+            for _ in 0..=QUIET {
+                feed.renew(vec![500]);
+                assert!(feed.can_audit());
+            }
+            feed.renew(vec![500]);
+            (0..100).for_each(|_| feed.push(1, 1, 0, 0));
+            assert!(!feed.can_audit() && feed.entries.is_empty() && feed.handed_over == 0);
+            assert!(
+                feed.begin_report(|| unreachable!("it runs")),
+                "it is renewed"
+            );
+            assert!(
+                !feed.begin_report(|| unreachable!("it runs")),
+                "it is not renewed twice"
+            );
+            feed.renew(vec![500]);
+            assert!(feed.can_audit() && !feed.begin_report(|| unreachable!("it runs")));
+            twin.wake();
+            let finding = pending.recv().expect("the thread runs").expect("it agrees");
+            assert_eq!(finding.distance, 0);
+        }
+    }
+
+    /// A bank that logs each history does so without reports.
+    #[test]
+    fn each_history_is_logged_on_request() {
+        let (twin, mut feed) = Twin::of(&[500], &[]);
+        feed.start_always(|| twin.start());
+        for _ in 0..=2 * QUIET {
+            feed.renew(vec![500]);
+        }
+        assert!(feed.can_audit());
     }
 
     /// If the thread ends by a panic, no caller waits for it, and nothing more is kept for it.

@@ -220,10 +220,10 @@ impl BankBuilder {
     /// transaction of the history. It costs the memory of a second engine, up to 16 MB for the events, a tenth of the
     /// throughput, and, while there are reports, the time to replay the events.
     ///
-    /// By default the bank starts the thread when its first report begins. A bank without reports only logs the first 65,536
-    /// events of each history, in 1 MB. If the history has more events when the first report begins, the bank is renewed
-    /// before that; active updates continue. If the thread cannot be started, or the work before this renewal fails, audits
-    /// hold the lock until the next renewal.
+    /// By default the bank starts the thread when its first report begins. Before that it only logs the first 65,536 events
+    /// of each history, in 1 MB, and after four histories in which no report has begun it logs nothing. If the history has
+    /// events that are not logged when a report begins, the bank is renewed before that; active updates continue. If the
+    /// thread cannot be started, or the work before this renewal fails, audits hold the lock until the next renewal.
     ///
     /// With `true` the bank starts the thread when it is opened, and is never renewed for it. With `false` audits always hold
     /// the lock.
@@ -369,7 +369,7 @@ impl BankBuilder {
         let twin = is_logged.then(|| Twin::of(&self.opening, &self.weights));
         let (twin, mut feed) = twin.unzip();
         if let (Some(true), Some(twin), Some(feed)) = (self.background_audits, &twin, &mut feed) {
-            feed.begin_report(|| twin.start());
+            feed.start_always(|| twin.start());
             if !feed.can_audit() {
                 return Err(Error::NoMemory);
             }

@@ -7,7 +7,7 @@ use crate::{
     interleave::{Depth, explore},
     sync::park_timeout,
     turns,
-    twin::{MAX_LOGGED, tests::STACK},
+    twin::{MAX_LOGGED, QUIET, tests::STACK},
 };
 use std::{
     sync::{Arc, Mutex},
@@ -374,6 +374,25 @@ fn first_reports() {
         }
     }
     assert!(all.iter().all(|count| count.load(Ordering::Relaxed) > 0));
+}
+
+/// Reports that begin seldom are audited by the second engine, after a renewal of their own.
+#[test]
+fn rare_reports() {
+    let bank = updated(1);
+    for reports in 1..4 {
+        audit(&bank);
+        let metrics = bank.metrics();
+        assert_eq!(
+            (metrics.audits, metrics.background_audits),
+            (reports, reports)
+        );
+        let renewals = (reports - 1) * (u64::from(QUIET) + 3);
+        assert_eq!(metrics.renewals, renewals);
+        for _ in 0..QUIET + 2 {
+            bank.renew(&mut bank.lock()).expect("memory");
+        }
+    }
 }
 
 /// Without a thread audits hold the lock and nothing is logged, until the next renewal; then another thread is tried.
