@@ -7,6 +7,8 @@ pub mod Spaces
 pub mod Laws
 pub mod Bytes
 pub mod Classes
+pub mod Lanes
+pub mod Eights
 pub mod Fronts
 pub mod Feeds
 pub mod Spelling

@@ -3,3 +3,4 @@
 pub mod Lines
 pub mod Command
 pub mod Classes
+pub mod Digits

@@ -5,6 +5,7 @@
 //! command therefore parses back to itself, and contracts can say "if and only if".
 #![tactic(auto)]
 
+mod digits;
 mod limits;
 mod next;
 mod parse;

@@ -1,12 +1,13 @@
 //! The words of a line: names, limits and integers, in their one decimal form.
 
 ghost use Rattle.esr_grammar.specs.declared.words.TheConstants.{INT_END};
-ghost use Rattle.std.specs.Prelude.{◌≡◌, ◌∷◌, ◌<◌, ◌≤◌, ◌^◌, Option, option_map, length, IfSome, IfNone, IsTrue, true, false};
+ghost use Rattle.std.specs.Prelude.{◌≡◌, ℕ, List, ◌∷◌, ◌++◌, ◌<◌, ◌≤◌, ◌^◌, Option, option_map, length, IfSome, IfNone, IsTrue, true, false};
 ghost use Rattle.std.specs.Str.{all_ascii_digits};
 ghost use Rattle.std.specs.List.{position, list_all};
 ghost use Rattle.esr_grammar.specs.Command.{is_letter, is_name_byte, is_name, value_from, number_below, is_space, words_of, words_after, name_of, limit_in, int_of, one_of, two_of, three_of, four_of};
 ghost use Rattle.esr_grammar.specs.Classes.{classifies};
 
+use crate::digits::short_value;
 use std::str::from_utf8_unchecked;
 
 /// One above the largest number of 18 digits.
@@ -140,15 +141,19 @@ pub fn name(word: &[u8]) -> Option<&str>
     Some(unsafe { from_utf8_unchecked(word) })
 }
 
-/// Returns the value of up to 19 digits.
+/// Returns the value of up to 19 digits, with which the text ends.
 #[tactic(auto, using(crate::proofs::Laws::no_digit))]
 #[inline(always)]
-fn digits_value(digits: &[u8]) -> Option<u64>
-    requires { length digits.now ≤ 19 }
+fn digits_value(text: &[u8], digits: &[u8]) -> Option<u64>
+    requires ends { (front : List ℕ) × (text.now ≡ front ++ digits.now) }
+    requires upper_bound { length digits.now ≤ 19 }
     ensures found { IfSome result (λ n. (n ≡ value_from 0 digits.now) × (n < 10 ^ 19)
         × (all_ascii_digits digits.now ≡ true)) }
     ensures none { IfNone result (all_ascii_digits digits.now ≡ false) }
 {
+    if digits.len() <= 8 && text.len() >= 8 {
+        return short_value(text, digits);
+    }
     let mut value: u64 = 0;
     for digit in digits {
         if !digit.is_ascii_digit() {
@@ -159,10 +164,11 @@ fn digits_value(digits: &[u8]) -> Option<u64>
     Some(value)
 }
 
-/// Returns the limit with this decimal form: digits without leading zeros.
+/// Returns the limit with this decimal form, with which the text ends: digits without leading zeros.
 #[tactic(auto, using(crate::proofs::Laws::too_long, crate::proofs::Laws::empty_word, crate::proofs::Laws::zero_alone, crate::proofs::Laws::zero_in_front))]
 #[inline(always)]
-pub fn limit(word: &[u8]) -> Option<u64>
+pub fn limit_at_end(text: &[u8], word: &[u8]) -> Option<u64>
+    requires { (front : List ℕ) × (text.now ≡ front ++ word.now) }
     ensures { result ≡ limit_in word.now }
 {
     if word.len() > 19 {
@@ -171,34 +177,50 @@ pub fn limit(word: &[u8]) -> Option<u64>
     match word.first() {
         None => None,
         Some(b'0') => { if word.len() == 1 { Some(0) } else { None } }
-        Some(_) => digits_value(word),
+        Some(_) => digits_value(text, word),
     }
 }
 
-/// Returns the number of up to 18 digits with this decimal form.
+/// Returns the number of up to 18 digits with this decimal form, with which the text ends.
 #[inline(always)]
-fn magnitude(word: &[u8]) -> Option<u64>
+fn magnitude(text: &[u8], word: &[u8]) -> Option<u64>
+    requires { (front : List ℕ) × (text.now ≡ front ++ word.now) }
     ensures { result ≡ number_below INT_END word.now }
 {
-    let number = limit(word)?;
+    let number = limit_at_end(text, word)?;
     if number < INT_END { Some(number) } else { None }
 }
 
-/// Returns the integer with this decimal form.
+/// Returns the integer with this decimal form, with which the text ends.
 #[inline(always)]
-pub fn int(word: &[u8]) -> Option<i64>
+pub fn int_at_end(text: &[u8], word: &[u8]) -> Option<i64>
+    requires { (front : List ℕ) × (text.now ≡ front ++ word.now) }
     ensures { result ≡ int_of word.now }
 {
     match word.split_first() {
         None => None,
         Some((b'-', digits)) => {
-            let number = magnitude(digits)?;
+            let number = magnitude(text, digits)?;
             if number == 0 {
                 None
             } else {
                 Some(-(number as i64))
             }
         }
-        Some(_) => Some(magnitude(word)? as i64),
+        Some(_) => Some(magnitude(text, word)? as i64),
     }
+}
+
+/// Returns the limit with this decimal form.
+pub fn limit(word: &[u8]) -> Option<u64>
+    ensures { result ≡ limit_in word.now }
+{
+    limit_at_end(word, word)
+}
+
+/// Returns the integer with this decimal form.
+pub fn int(word: &[u8]) -> Option<i64>
+    ensures { result ≡ int_of word.now }
+{
+    int_at_end(word, word)
 }

@@ -1,7 +1,7 @@
 //! Replies that repeat the words of their line: these are copied from it in one piece, and no number is formatted. The
 //! reply to a write is its line, in which `write` becomes `wrote`.
 
-ghost use Rattle.std.specs.Prelude.{◌≡◌, ◌≤◌, ◌<◌, ◌∷◌, ◌++◌, [], OnOk, OnErr, length, take, slice_set};
+ghost use Rattle.std.specs.Prelude.{◌≡◌, ◌+◌, ◌≤◌, ◌<◌, ◌∷◌, ◌++◌, [], OnOk, OnErr, length, take, slice_set, vec_capacity};
 ghost use Rattle.esr_base.specs.Watch.{BeginsWith};
 ghost use Rattle.esr_report.specs.Lines.{reply_line};
 ghost use Rattle.esr_report.specs.Subjects.{named_by};
@@ -21,6 +21,18 @@ pub enum Echo<'a> {
     Write(&'a [u8]),
 }
 
+/// Appends bytes for which there is capacity.
+#[inline(always)]
+fn append_reserved(out: &mut Vec<u8>, bytes: &[u8])
+    requires { length out.old.items + length bytes.now ≤ vec_capacity out.old }
+    ensures items { out.new.items ≡ out.old.items ++ bytes.now }
+    ensures capacity { vec_capacity out.old ≤ vec_capacity out.new }
+{
+    if out.extend_from_slice(bytes).is_err() {
+        unreachable!()
+    }
+}
+
 /// Appends the reply to a write, given its line.
 #[tactic(auto, using(crate::proofs::Echoes::echoed))]
 #[inline(always)]
@@ -29,10 +41,11 @@ fn append_wrote(out: &mut Vec<u8>, line: &[u8]) -> Result<(), AllocError>
     ensures ok { OnOk result (out.new.items ≡ out.old.items ++ (slice_set line.now 2 111 ++ 10 ∷ [])) }
     ensures kept { BeginsWith out.new.items out.old.items }
 {
+    out.reserve(line.len() + 1)?;
     let place = out.len() + 2;
-    out.extend_from_slice(line)?;
+    append_reserved(out, line);
     out[place] = b'o';
-    out.push(b'\n')?;
+    out.push_reserved(b'\n');
     Ok(())
 }
 
@@ -42,10 +55,12 @@ fn append_value(out: &mut Vec<u8>, words: &[u8], value: &[u8]) -> Result<(), All
     ensures ok { OnOk result (out.new.items ≡ out.old.items ++ (words.now ++ (32 ∷ (value.now ++ 10 ∷ [])))) }
     ensures kept { BeginsWith out.new.items out.old.items }
 {
-    out.extend_from_slice(words)?;
-    out.push(b' ')?;
-    out.extend_from_slice(value)?;
-    out.push(b'\n')?;
+    out.reserve(words.len() + 1)?;
+    append_reserved(out, words);
+    out.push_reserved(b' ');
+    out.reserve(value.len() + 1)?;
+    append_reserved(out, value);
+    out.push_reserved(b'\n');
     Ok(())
 }
 

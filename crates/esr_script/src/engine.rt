@@ -59,8 +59,7 @@ impl IndexedMachine {
         }
     }
 
-    /// Gives the machine an event. Reads and writes, the most frequent events, have separate calls.
-    #[inline(always)]
+    /// Gives the machine an event.
     #[tactic(auto, using(crate::proofs::Kept::kept_after))]
     pub fn step(&mut self, event: Event) -> Result<Reply, StepError>
         ensures reply { IfOk result (λ reply. reply ≡ reply_to weighted self.old event) }
@@ -70,10 +69,40 @@ impl IndexedMachine {
         ensures fits { IfOk result (λ reply. ¬ (length self.old.entries ≡ MAX_ENTRIES)) }
         ensures open { ¬ IsErrOf result StepError.EngineClosed }
     {
+        self.machine.step(event)
+    }
+
+    /// Gives the machine an event, like `step`. A read is executed inline.
+    #[inline(always)]
+    #[tactic(auto, using(crate::proofs::Kept::kept_after))]
+    pub fn step_read(&mut self, event: Event) -> Result<Reply, StepError>
+        ensures reply { IfOk result (λ reply. reply ≡ reply_to weighted self.old event) }
+        ensures added { IfOk result (λ reply. self.new ≡ extended self.old event reply) }
+        ensures err { OnErr result (self.new ≡ self.old) }
+        ensures full { IsErrOf result StepError.HistoryFull → length self.old.entries ≡ MAX_ENTRIES }
+        ensures fits { IfOk result (λ reply. ¬ (length self.old.entries ≡ MAX_ENTRIES)) }
+        ensures open { ¬ IsErrOf result StepError.EngineClosed }
+    {
         match event {
             Event::Read { txn, item } => self.machine.read(txn, item),
+            _ => self.step(event),
+        }
+    }
+
+    /// Gives the machine an event, like `step`. A write is executed inline.
+    #[inline(always)]
+    #[tactic(auto, using(crate::proofs::Kept::kept_after))]
+    pub fn step_write(&mut self, event: Event) -> Result<Reply, StepError>
+        ensures reply { IfOk result (λ reply. reply ≡ reply_to weighted self.old event) }
+        ensures added { IfOk result (λ reply. self.new ≡ extended self.old event reply) }
+        ensures err { OnErr result (self.new ≡ self.old) }
+        ensures full { IsErrOf result StepError.HistoryFull → length self.old.entries ≡ MAX_ENTRIES }
+        ensures fits { IfOk result (λ reply. ¬ (length self.old.entries ≡ MAX_ENTRIES)) }
+        ensures open { ¬ IsErrOf result StepError.EngineClosed }
+    {
+        match event {
             Event::Write { txn, item, value } => self.machine.write(txn, item, value),
-            _ => self.machine.step(event),
+            _ => self.step(event),
         }
     }
 

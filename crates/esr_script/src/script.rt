@@ -83,6 +83,7 @@ impl Script {
     }
 
     /// Returns the transaction of a name: 0 if the name is not bound.
+    #[inline(always)]
     fn transaction(&self, name: &str) -> TxnId
         ensures { result ≡ transaction_called self.now name.now }
     {
@@ -93,6 +94,7 @@ impl Script {
     }
 
     /// Returns the item of a name: one that does not exist if the name is not bound.
+    #[inline(always)]
     fn item(&self, name: &str) -> ItemId
         ensures { result ≡ item_called self.now name.now }
     {
@@ -140,6 +142,7 @@ impl Script {
     }
 
     /// Declares an item of weight 1.
+    #[inline(never)]
     fn declare(
         &mut self,
         name: &str,
@@ -156,6 +159,7 @@ impl Script {
     }
 
     /// Declares an item with a weight.
+    #[inline(never)]
     fn declare_weighted(
         &mut self,
         name: &str,
@@ -198,7 +202,56 @@ impl Script {
         outcome_or_fault(appended, LineOutcome::of_reply(reply))
     }
 
+    /// Executes an event, like `ask`. A read is executed inline.
+    #[inline(always)]
+    fn ask_read(
+        &mut self,
+        subject: ReplyNames<'_>,
+        echo: Echo<'_>,
+        event: Event,
+        out: &mut Vec<u8>,
+    ) -> Result<LineOutcome, RunFault>
+        requires begin { IsBegin event → position_of self.old.transactions subject.txn.now ≡ None }
+        requires echo { IsEcho echo (named_by subject) }
+        ensures { Executes (ask self.old (named_by subject.entry) event) self.new out.old.items out.new.items result }
+    {
+        self.stage.ensure_started(self.alloc)?;
+        let reply = self.stage.step_read(event)?;
+        if let Reply::Begun(_) = reply {
+            if self.transactions.bind(subject.txn).is_err() {
+                return Err(RunFault::NoMemory);
+            }
+        }
+        let appended = push_reply(out, &self.transactions, subject, echo, reply);
+        outcome_or_fault(appended, LineOutcome::of_reply(reply))
+    }
+
+    /// Executes an event, like `ask`. A write is executed inline.
+    #[inline(always)]
+    fn ask_write(
+        &mut self,
+        subject: ReplyNames<'_>,
+        echo: Echo<'_>,
+        event: Event,
+        out: &mut Vec<u8>,
+    ) -> Result<LineOutcome, RunFault>
+        requires begin { IsBegin event → position_of self.old.transactions subject.txn.now ≡ None }
+        requires echo { IsEcho echo (named_by subject) }
+        ensures { Executes (ask self.old (named_by subject.entry) event) self.new out.old.items out.new.items result }
+    {
+        self.stage.ensure_started(self.alloc)?;
+        let reply = self.stage.step_write(event)?;
+        if let Reply::Begun(_) = reply {
+            if self.transactions.bind(subject.txn).is_err() {
+                return Err(RunFault::NoMemory);
+            }
+        }
+        let appended = push_reply(out, &self.transactions, subject, echo, reply);
+        outcome_or_fault(appended, LineOutcome::of_reply(reply))
+    }
+
     /// Begins a transaction, whose name must not be bound already.
+    #[inline(never)]
     fn begin(
         &mut self,
         name: &str,
@@ -234,7 +287,7 @@ impl Script {
             item,
             value: 0,
         };
-        self.ask(subject, Echo::Read(words), event, out)
+        self.ask_read(subject, Echo::Read(words), event, out)
     }
 
     /// Writes an item.
@@ -257,10 +310,11 @@ impl Script {
             value,
         };
         let subject = ReplyNames { txn, item, value };
-        self.ask(subject, Echo::Write(line), event, out)
+        self.ask_write(subject, Echo::Write(line), event, out)
     }
 
     /// Commits a transaction.
+    #[inline(never)]
     fn commit(&mut self, txn: &str, out: &mut Vec<u8>) -> Result<LineOutcome, RunFault>
         ensures { Executes (execute self.old (command.commit txn.now)) self.new out.old.items out.new.items result }
     {
@@ -271,6 +325,7 @@ impl Script {
     }
 
     /// Aborts a transaction.
+    #[inline(never)]
     fn abort(&mut self, txn: &str, out: &mut Vec<u8>) -> Result<LineOutcome, RunFault>
         ensures { Executes (execute self.old (command.abort txn.now)) self.new out.old.items out.new.items result }
     {
@@ -281,6 +336,7 @@ impl Script {
     }
 
     /// Sums the charges so far.
+    #[inline(never)]
     fn totals(&mut self, out: &mut Vec<u8>) -> Result<LineOutcome, RunFault>
         ensures { Executes (execute self.old command.totals) self.new out.old.items out.new.items result }
     {
@@ -359,6 +415,7 @@ impl Script {
     }
 
     /// Executes an `audit` line.
+    #[inline(never)]
     fn reply_audit(&mut self, txn: &str, out: &mut Vec<u8>) -> Result<LineOutcome, RunFault>
         ensures { Executes (execute self.old (command.audit txn.now)) self.new out.old.items out.new.items result }
     {
@@ -513,7 +570,8 @@ impl Script {
         }
     }
 
-    /// Executes the command of a line.
+    /// Executes the command of a line. Only reads and writes, the most frequent commands, are inlined: with the others
+    /// the function would exceed the compiler's limit for inlining it.
     #[inline(always)]
     fn execute(
         &mut self,

@@ -106,6 +106,52 @@ impl Stage {
         }
     }
 
+    /// Gives the machine an event, like `step`. A read is executed inline.
+    #[inline(always)]
+    pub fn step_read(&mut self, event: Event) -> Result<Reply, RunFault>
+        requires { is_running self.old ≡ true }
+        ensures fits { OnOk result (length (history_of self.old).entries ≢ MAX_ENTRIES) }
+        ensures reply { IfOk result (λ reply. reply ≡ reply_to weighted (history_of self.old) event) }
+        ensures added { IfOk result (λ reply. history_of self.new ≡ extended (history_of self.old) event reply) }
+        ensures running { is_running self.new ≡ true }
+        ensures err { OnErr result (history_of self.new ≡ history_of self.old) }
+        ensures faults { IfErr result (λ e. (e ≡ RunFault.NoMemory)
+            ⊎ ((e ≡ RunFault.HistoryFull) × (length (history_of self.old).entries ≡ MAX_ENTRIES))) }
+    {
+        match self {
+            Stage::Running(engine) => match engine.step_read(event) {
+                Ok(reply) => Ok(reply),
+                Err(StepError::HistoryFull) => Err(RunFault::HistoryFull),
+                Err(StepError::NoMemory) => Err(RunFault::NoMemory),
+                Err(StepError::EngineClosed) => unreachable!(),
+            },
+            Stage::Open(_) => unreachable!(),
+        }
+    }
+
+    /// Gives the machine an event, like `step`. A write is executed inline.
+    #[inline(always)]
+    pub fn step_write(&mut self, event: Event) -> Result<Reply, RunFault>
+        requires { is_running self.old ≡ true }
+        ensures fits { OnOk result (length (history_of self.old).entries ≢ MAX_ENTRIES) }
+        ensures reply { IfOk result (λ reply. reply ≡ reply_to weighted (history_of self.old) event) }
+        ensures added { IfOk result (λ reply. history_of self.new ≡ extended (history_of self.old) event reply) }
+        ensures running { is_running self.new ≡ true }
+        ensures err { OnErr result (history_of self.new ≡ history_of self.old) }
+        ensures faults { IfErr result (λ e. (e ≡ RunFault.NoMemory)
+            ⊎ ((e ≡ RunFault.HistoryFull) × (length (history_of self.old).entries ≡ MAX_ENTRIES))) }
+    {
+        match self {
+            Stage::Running(engine) => match engine.step_write(event) {
+                Ok(reply) => Ok(reply),
+                Err(StepError::HistoryFull) => Err(RunFault::HistoryFull),
+                Err(StepError::NoMemory) => Err(RunFault::NoMemory),
+                Err(StepError::EngineClosed) => unreachable!(),
+            },
+            Stage::Open(_) => unreachable!(),
+        }
+    }
+
     /// Returns the imports and exports together, and the number of entries.
     pub fn totals(&self) -> Totals
         ensures import { result.import ≡ all_imports weighted (history_of self.now) }

@@ -1,9 +1,18 @@
 use mir.Val.{to_z, of_z}
-use Rattle.std.proofs.Common.{w64, ◌≡◌, sym, ap, ◌∙◌, ◌++◌, ◌∷◌}
+use Rattle.std.proofs.Common.{w64, ◌≡◌, sym, ap, ◌∙◌, ◌++◌, ◌∷◌, []}
 use Rattle.std.proofs.lemmas.Int.{to_z-of_z}
 use Rattle.esr_grammar.proofs.Fronts.{int_fits}
+use Rattle.esr_grammar.proofs.Eights.{past_two}
 use Rattle.esr_grammar.proofs.Laws.{int_found}
 use Rattle.esr_grammar.proofs.quick.write.Goals as goal
+
+pub int_at_end-requires : goal.int_at_end-requires
+int_at_end-requires c =
+    let txn = c.in_ok-txn in
+    let thing = c.in_ok-item in (
+      txn.txn.now ++ 32 ∷ (thing.item.now ++ 32 ∷ []),
+      txn.ensures.1 ∙ ap (λ l. txn.txn.now ++ 32 ∷ l) thing.ensures.1 ∙ past_two txn.txn.now thing.item.now thing.last.now 32 32,
+    )
 
 pub returns : goal.returns
 returns c =

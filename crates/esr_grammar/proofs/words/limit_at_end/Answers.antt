@@ -1,7 +1,7 @@
 use Rattle.std.proofs.Common.{sym, ◌∙◌, arith}
 use Rattle.std.proofs.lemmas.Option.{get_or_from_slice_get}
 use Rattle.esr_grammar.proofs.Laws.{by_digits}
-use Rattle.esr_grammar.proofs.words.limit.Goals as goal
+use Rattle.esr_grammar.proofs.words.limit_at_end.Goals as goal
 
 pub returns-in-Some : goal.returns-in-Some
 returns-in-Some c =
