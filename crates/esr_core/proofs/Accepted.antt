@@ -18,10 +18,10 @@ use Rattle.esr_ledgers.specs.declared.ledgers.Quote.TheVariants.{Fits}
 use Rattle.esr_ledgers.specs.Books.{quote_of, charged}
 use Rattle.esr_locks.specs.Tables.{locks_at}
 use Rattle.esr_core.specs.Represented.{Represents, books_of, Transaction}
-use Rattle.esr_core.specs.States.{reason_of, read_charge, charged_once}
+use Rattle.esr_core.specs.States.{charges_by, reason_of, read_charge, charged_once}
 use Rattle.esr_core.proofs.Locks.{locks_at_item}
 use Rattle.esr_core.proofs.Accounts.{books-unchanged}
-use Rattle.esr_core.proofs.Charges.{charges_by, quote_reason, books-charged}
+use Rattle.esr_core.proofs.Charges.{quote_reason, books-charged}
 use Rattle.esr_core.proofs.Reasons.{due_some, due_none}
 
 pub fits_from : (q : Quote) → reason_of q ≡ None → q ≡ Fits

@@ -19,7 +19,7 @@ use Rattle.esr_history.proofs.WellFormed.{update_begun}
 use Rattle.esr_ledgers.specs.declared.account.Account.{Account}
 use Rattle.esr_ledgers.specs.Books.{number, is_open_query, limit_at, account_amount, total_of, would_pass, quoted, quote_of, raised, charged_to_queries, charged, AreCharges}
 use Rattle.esr_core.specs.Represented.{account_after, books_of}
-use Rattle.esr_core.specs.States.{reason_of, charges_to}
+use Rattle.esr_core.specs.States.{reason_of, charge_to, charges_by, charges_to}
 use Rattle.esr_core.proofs.Held.{txn_numbers-unchanged, is_query-unchanged, limit-unchanged}
 use Rattle.esr_core.proofs.Rows.{begun_at}
 use Rattle.esr_core.proofs.Accounts.{open_query_is, open_update_is, limit_is, import_is, export_is}
@@ -28,13 +28,6 @@ use Rattle.std.proofs.lemmas.Grind.{common_steps}
 abbrev is_some_charge : List (TxnId × ℕ) → Bool
 is_some_charge [] = false
 is_some_charge (c ∷ cs) = true
-
--- a charge as the history has it
-abbrev pub charge_to : ℕ → TxnId × ℕ → Charge
-charge_to u c = record { query = c.0.0; update = u; amount = c.1 }
-
-abbrev pub charges_by : ℕ → List (TxnId × ℕ) → List Charge
-charges_by u cs = map (charge_to u) cs
 
 abbrev more : ℕ → Account → Account
 more n a = record a { amount = a.amount + n }

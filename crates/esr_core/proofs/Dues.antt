@@ -10,8 +10,7 @@ use Rattle.esr_history.specs.Imports.{imported}
 use Rattle.esr_ledgers.specs.declared.account.Account.{Account}
 use Rattle.esr_locks.specs.Tables.{locks_at}
 use Rattle.esr_core.specs.Represented.{Represents, Transaction}
-use Rattle.esr_core.specs.States.{read_charge, charges_for}
-use Rattle.esr_core.proofs.Charges.{charge_to, charges_by}
+use Rattle.esr_core.specs.States.{charge_to, charges_by, read_charge, charges_for}
 use Rattle.esr_core.proofs.Reasons.{due_some, due_none}
 use Rattle.esr_core.proofs.Writes.{owed, due_is}
 

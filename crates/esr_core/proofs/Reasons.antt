@@ -16,11 +16,11 @@ use Rattle.esr_ledgers.specs.Books.{quote_of, AreCharges, is_open_query}
 use Rattle.esr_history.specs.Ascending.{IsSmallest}
 use Rattle.esr_locks.specs.Tables.{locks_at, blocks_read, blocks_write}
 use Rattle.esr_core.specs.Represented.{Represents, books_of, transaction_after, Transaction}
-use Rattle.esr_core.specs.States.{reason_of, read_charge}
+use Rattle.esr_core.specs.States.{charge_to, charges_by, reason_of, read_charge}
 use Rattle.esr_core.proofs.Rows.{row_is}
 use Rattle.esr_core.proofs.Locks.{locks_len, locks_at_item, find_read_blocker, find_write_blocker}
 use Rattle.esr_core.proofs.Accounts.{open_query_is, open_update_is}
-use Rattle.esr_core.proofs.Charges.{charges_by, charge_to, quote_reason}
+use Rattle.esr_core.proofs.Charges.{quote_reason}
 
 skip : (a b c : Option Refusal) (rs : List (Option Refusal)) → None ≡ first_reason (a ∷ b ∷ []) → None ≡ c → first_reason (a ∷ b ∷ c ∷ rs) ≡ first_reason rs
 skip None None None rs p q = refl

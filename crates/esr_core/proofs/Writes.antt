@@ -14,9 +14,9 @@ use Rattle.esr_ledgers.specs.declared.account.Account.{Account}
 use Rattle.esr_ledgers.specs.Books.{AreCharges, charged}
 use Rattle.esr_locks.specs.Tables.{locks_at}
 use Rattle.esr_core.specs.Represented.{Represents, books_of, Transaction}
-use Rattle.esr_core.specs.States.{charges_to, reason_for}
+use Rattle.esr_core.specs.States.{charges_by, charges_to, reason_for}
 use Rattle.esr_core.proofs.Locks.{locks_at_item}
-use Rattle.esr_core.proofs.Charges.{charges_by, quote_reason, due-write, are_charges-write, books-charged}
+use Rattle.esr_core.proofs.Charges.{quote_reason, due-write, are_charges-write, books-charged}
 use Rattle.esr_core.proofs.Reasons.{write_split, write_first}
 
 -- the reasons to refuse a write, apart from its charges

@@ -3,7 +3,7 @@
 ghost use Rattle.std.specs.Prelude.{◌≡◌, ◌<◌, length};
 ghost use Rattle.esr_history.specs.Machine.{accepted_in, writer};
 ghost use Rattle.esr_why.specs.Locks.{lock_by, lock_in_way};
-ghost use Rattle.esr_why.specs.Notes.{IsInRange};
+ghost use Rattle.esr_core.specs.States.{IsInRange};
 
 use esr_core::Machine;
 use esr_history::{Event, TxnId};
