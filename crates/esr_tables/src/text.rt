@@ -89,7 +89,7 @@ fn push_heads(out: &mut String, widths: &Widths) -> Result<(), AllocError> {
         before = before.saturating_add(*width).saturating_add(2);
     }
     for (width, (column, _, head)) in widths.0.iter().zip(LEDGER_COLUMNS.iter()) {
-        if *column != Column::Number {
+        if *column != Column::TxnNumber {
             out.push_str("  ")?;
         }
         push_aligned(out, *column, Content::Word(head), *width)?;
@@ -106,7 +106,7 @@ fn push_row(
     span: LineSpan,
 ) -> Result<(), AllocError> {
     for (width, (column, _, _)) in widths.0.iter().zip(LEDGER_COLUMNS.iter()) {
-        if *column != Column::Number {
+        if *column != Column::TxnNumber {
             out.push_str("  ")?;
         }
         push_aligned(out, *column, content_of(*column, name, row, span), *width)?;
