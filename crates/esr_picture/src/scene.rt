@@ -6,7 +6,7 @@
 use crate::arrow_reduction::{Slots, arrows};
 use crate::lanes::{LaneVersions, reads_in, reads_of_values, versions_drawn};
 use crate::observed_reads::{read_counts_by_value, read_flags_by_version, transient_reads_of};
-use crate::selection::{Choice, choose};
+use crate::selection::{Choice, FEW_RELEVANT, choose};
 use crate::titles::{arrow_title, update_title};
 use crate::versions::{Positions, unwritten, versions_of};
 use esr_cert::{Chain, Problem};
@@ -17,12 +17,12 @@ use esr_svg::{
     Arrow, Deciding, Lane, LaneReads, LaneSegment, MAX_UPDATES, Scene, Update, updates_to_keep,
 };
 use esr_text::first;
-use esr_trace::{Audited, QueryTrace, sentences_of};
+use esr_trace::{Audited, Placement, QueryTrace, relevant_updates, sentences_of};
 use std::alloc::{AllocError, Global};
 
 /// The number of times that a scene that is too wide is rebuilt with fewer updates. After that it has no updates, and
 /// then no values read within dotted segments.
-const MAX_TRIES: u32 = 7;
+const MAX_TRIES: u32 = 12;
 
 /// The maximum number of items without a lane that are named.
 const MAX_NAMES: usize = 3;
@@ -72,6 +72,29 @@ fn drawn_in_order(alloc: Global, choice: &Choice) -> Result<Vec<u32>, AllocError
     Ok(drawn)
 }
 
+/// Returns the updates to draw first, by their positions: the causes of the reads that are off and, if these are few, those
+/// that were charged most, as in the timeline; without those that are not ahead of the query in commit order.
+fn relevant_positions(
+    alloc: Global,
+    audited: &Audited<'_>,
+    trace: &QueryTrace,
+    positions: &Positions,
+) -> Result<Vec<u32>, AllocError> {
+    let placement = Placement::after(alloc, audited.history, &audited.finding.before)?;
+    let causes = placement.causes(alloc, audited.history, trace)?;
+    let updates = relevant_updates(alloc, trace, &causes, &[], MAX_UPDATES)?;
+    let mut relevant = Vec::new(alloc);
+    for update in &updates {
+        let is_wanted = relevant.len() < FEW_RELEVANT || causes.contains(update);
+        if let Some(position) = positions.of(*update)
+            && is_wanted
+        {
+            relevant.push(position)?;
+        }
+    }
+    Ok(relevant)
+}
+
 /// The data from which all scenes of a query are built.
 #[derive(Drop)]
 struct Source<'a> {
@@ -80,6 +103,8 @@ struct Source<'a> {
     positions: Positions,
     /// For each chain whether its item was never written and has no lane.
     unwritten: Vec<bool>,
+    /// The updates to draw first, by their positions.
+    relevant: Vec<u32>,
 }
 
 impl<'a> Source<'a> {
@@ -90,11 +115,13 @@ impl<'a> Source<'a> {
     ) -> Result<Source<'a>, AllocError> {
         let problem = &audited.finding.problem;
         let begun = audited.history.begun_count();
+        let positions = Positions::new(alloc, problem.updates(), begun)?;
         Ok(Source {
             audited,
             trace,
-            positions: Positions::new(alloc, problem.updates(), begun)?,
             unwritten: unwritten(alloc, audited.history, problem.chains())?,
+            relevant: relevant_positions(alloc, audited, trace, &positions)?,
+            positions,
         })
     }
 
@@ -166,6 +193,7 @@ impl<'a, 'b> SceneParts<'a, 'b> {
             &finding.problem,
             &finding.certificate.set,
             &source.unwritten,
+            &source.relevant,
             extent.updates,
         )?;
         let drawn = drawn_in_order(alloc, &choice)?;
