@@ -218,12 +218,7 @@ fn name_at<'a>(scene: &Scene<'a>, lane: usize) -> &'a str {
 }
 
 /// Returns the upper and the lower edge of the rows of the head above a lane that are at x, if there are any.
-fn gap_of_head(
-    lane: &Lane<'_>,
-    band: &Band<'_>,
-    number: usize,
-    x: u32,
-) -> Option<(u32, u32)> {
+fn gap_of_head(lane: &Lane<'_>, band: &Band<'_>, number: usize, x: u32) -> Option<(u32, u32)> {
     let span = band.span(number);
     if !span.is_drawn || !band.has_heads_above() {
         return None;
@@ -261,7 +256,10 @@ fn gap_of_charge(
         .lane_top(number)
         .saturating_add(span.amount_row())
         .saturating_sub(11);
-    Some((top, top.saturating_add(span.charge_height()).saturating_add(2)))
+    Some((
+        top,
+        top.saturating_add(span.charge_height()).saturating_add(2),
+    ))
 }
 
 /// Appends the end of a part of an arrow, and the start of the next one, in the direction of the arrow.

@@ -48,29 +48,43 @@ fn off_letters(value: i64, there: i64, is_folded: bool) -> usize {
     }
 }
 
-/// Returns the letters of the longest row of a note.
-fn note_letters(note: Note<'_>) -> usize {
-    match note {
-        Note::Wrote {
-            update,
-            value,
-            place,
-        } => {
-            // `u1 wrote 1,500`, and `in step 57` in the next row
-            let wrote = update.len().saturating_add(letters_of(value));
-            let step = number_letters((place as u64).saturating_add(1));
-            wrote.saturating_add(7).max(step.saturating_add(8))
-        }
-        // `as u1 wrote`, or `as at the start`
-        Note::Equals { update } => update.len().saturating_add(9).max(15),
-    }
+/// Returns the letters of the longer of `u1 wrote 1,500` and `in step 57`.
+fn write_letters(update: &str, value: i64, place: usize) -> usize {
+    let wrote = update.len().saturating_add(letters_of(value));
+    let step = number_letters((place as u64).saturating_add(1));
+    wrote.saturating_add(7).max(step.saturating_add(8))
 }
 
-/// Returns the letters of the note at a mark that is drawn.
-fn drawn_note_letters(mark: &Mark<'_>) -> usize {
+/// Returns the letters of `u2 follows u1`, or 0 if the update follows none.
+fn follows_letters(update: &str, follows: &str) -> usize {
+    if follows.is_empty() {
+        return 0;
+    }
+    let names = update.len().saturating_add(follows.len());
+    names.saturating_add(9)
+}
+
+/// Returns the letters of the longest row of the note at a mark.
+fn note_letters(mark: &Mark<'_>) -> usize {
     match mark.note {
-        Some(note) if mark.has_note => note_letters(note),
-        _ => 0,
+        Some(
+            Note::Wrote {
+                update,
+                value,
+                place,
+                follows,
+            },
+        ) => {
+            let write = if mark.has_note {
+                write_letters(update, value, place)
+            } else {
+                0
+            };
+            write.max(follows_letters(update, follows))
+        }
+        // `as u1 wrote`, or `as at the start`
+        Some(Note::Equals { update }) => update.len().saturating_add(9).max(15),
+        None => 0,
     }
 }
 
@@ -108,7 +122,7 @@ fn item_letters(mark: &Mark<'_>) -> usize {
 fn half_label(column: &Column<'_>) -> u32 {
     if column.has_label {
         let below = value_letters(&column.mark, column.is_folded);
-        let note = drawn_note_letters(&column.mark);
+        let note = note_letters(&column.mark);
         half_of(item_letters(&column.mark).max(below).max(note))
     } else {
         0

@@ -415,8 +415,11 @@ fn span_of(columns: &[Column<'_>], life: Life, left: u32, open_end: u32, is_last
 /// Returns the rows of the note at a column that is drawn.
 fn rows_of_note(column: &Column<'_>) -> u32 {
     match column.mark.note {
-        Some(Note::Wrote { .. }) if column.mark.has_note && column.has_label => 2,
-        Some(Note::Equals { .. }) if column.mark.has_note && column.has_label => 1,
+        Some(Note::Wrote { follows, .. }) if column.has_label => {
+            let write = if column.mark.has_note { 2 } else { 0 };
+            if follows.is_empty() { write } else { write + 1 }
+        }
+        Some(Note::Equals { .. }) if column.has_label => 1,
         _ => 0,
     }
 }

@@ -58,15 +58,18 @@ pub enum Cause {
 #[derive(Clone, Copy, PartialEq, Eq)]
 pub enum Note<'a> {
     /// The read is off: an update that is not before the nearest placement wrote the value, or one before it the value
-    /// there, in the entry at this index.
+    /// there, in the entry at this index. If an update that was not charged follows a charged one, this is `follows`.
     Wrote {
         update: &'a str,
         value: i64,
         place: usize,
+        follows: &'a str,
     },
     /// The read is exact, although the writer of its value is not before the nearest placement: the value is also that
     /// of this update, or the opening value if this is nothing.
-    Equals { update: &'a str },
+    Equals {
+        update: &'a str,
+    },
 }
 
 /// A mark on a lane: an entry of the log.
@@ -88,7 +91,7 @@ pub struct Mark<'a> {
     pub is_key: bool,
     /// What explains the value of a read, if that needs an explanation.
     pub note: Option<Note<'a>>,
-    /// True if the note is drawn, since the write is not.
+    /// False if the note need not name the write, since that is drawn.
     pub has_note: bool,
 }
 

@@ -51,34 +51,73 @@ fn push_values(
     close_text(out)
 }
 
-/// Appends a note below the values of a read, if it is drawn.
+/// Appends the write that explains a read, in two rows.
+fn push_write(
+    out: &mut String,
+    update: &str,
+    value: i64,
+    place: usize,
+    x: u32,
+    y: u32,
+) -> Result<(), AllocError> {
+    open_centred(out, "lb rd ha", x, y)?;
+    write!(out, "{update} wrote ")?;
+    push_value(out, value)?;
+    close_text(out)?;
+    open_centred(out, "lb rd ha", x, y.saturating_add(TEXT_ROW))?;
+    out.push_str("in step ")?;
+    push_number(out, (place as u64).saturating_add(1))?;
+    close_text(out)
+}
+
+/// Appends which charged update an update follows.
+fn push_follows(
+    out: &mut String,
+    update: &str,
+    follows: &str,
+    x: u32,
+    y: u32,
+) -> Result<(), AllocError> {
+    open_centred(out, "lb rd ha", x, y)?;
+    write!(out, "{update} follows {follows}")?;
+    close_text(out)
+}
+
+/// Appends which update wrote the same as a read returned, or that it is the opening value.
+fn push_equal(out: &mut String, update: &str, x: u32, y: u32) -> Result<(), AllocError> {
+    open_centred(out, "lb gy ha", x, y)?;
+    if update.is_empty() {
+        out.push_str("as at the start")?;
+    } else {
+        write!(out, "as {update} wrote")?;
+    }
+    close_text(out)
+}
+
+/// Appends the note below the values of a read, if it has one.
 fn push_note(out: &mut String, column: &Column<'_>, y: u32) -> Result<(), AllocError> {
     let mark = &column.mark;
     match mark.note {
-        Some(Note::Wrote {
-            update,
-            value,
-            place,
-        }) if mark.has_note => {
-            open_centred(out, "lb rd ha", column.x, y)?;
-            write!(out, "{update} wrote ")?;
-            push_value(out, value)?;
-            close_text(out)?;
-            open_centred(out, "lb rd ha", column.x, y.saturating_add(TEXT_ROW))?;
-            out.push_str("in step ")?;
-            push_number(out, (place as u64).saturating_add(1))?;
-            close_text(out)
-        }
-        Some(Note::Equals { update }) if mark.has_note => {
-            open_centred(out, "lb gy ha", column.x, y)?;
-            if update.is_empty() {
-                out.push_str("as at the start")?;
-            } else {
-                write!(out, "as {update} wrote")?;
+        Some(
+            Note::Wrote {
+                update,
+                value,
+                place,
+                follows,
+            },
+        ) => {
+            let mut y = y;
+            if mark.has_note {
+                push_write(out, update, value, place, column.x, y)?;
+                y = y.saturating_add(2 * TEXT_ROW);
             }
-            close_text(out)
+            if follows.is_empty() {
+                return Ok(());
+            }
+            push_follows(out, update, follows, column.x, y)
         }
-        _ => Ok(()),
+        Some(Note::Equals { update }) => push_equal(out, update, column.x, y),
+        None => Ok(()),
     }
 }
 

@@ -69,15 +69,22 @@ fn push_nearest(out: &mut String, nearest: Option<i64>) -> Result<(), AllocError
 /// Appends what explains the value of a read.
 fn push_note(out: &mut String, note: Option<Note<'_>>) -> Result<(), AllocError> {
     match note {
-        Some(Note::Wrote {
-            update,
-            value,
-            place,
-        }) => {
+        Some(
+            Note::Wrote {
+                update,
+                value,
+                place,
+                follows,
+            },
+        ) => {
             write!(out, "; {update} wrote ")?;
             push_value(out, value)?;
             out.push_str(" in step ")?;
-            push_number(out, (place as u64).saturating_add(1))
+            push_number(out, (place as u64).saturating_add(1))?;
+            if follows.is_empty() {
+                return Ok(());
+            }
+            write!(out, " and follows {follows}")
         }
         Some(Note::Equals { update }) if update.is_empty() => out.push_str(", as at the start"),
         Some(Note::Equals { update }) => write!(out, ", as {update} wrote"),

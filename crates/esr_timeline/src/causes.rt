@@ -65,6 +65,15 @@ impl Causes {
         }
     }
 
+    /// Returns the update whose charges explain why this one is not before the placement, or nothing if it is before it.
+    pub fn cause_of(&self, update: TxnId) -> Option<TxnId> {
+        if self.has_before(update) {
+            None
+        } else {
+            Some(self.predecessors.at(update))
+        }
+    }
+
     /// Notes reads that have this distance.
     fn note(&mut self, observed: &ObservedRead, distance: u64) {
         match self.late_cause(observed) {

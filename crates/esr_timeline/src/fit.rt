@@ -8,13 +8,12 @@ use crate::charges::{
     ChargedQueries, between, charges_to, drawable, greatest, sum_of, with_exports,
 };
 use crate::farthest::farthest_read;
-use crate::lanes::{
-    MAX_LANES, concerned, farthest, first_begun, lanes_of, nearest_to,
-};
+use crate::lanes::{MAX_LANES, concerned, farthest, first_begun, lane_at, lanes_of, nearest_to};
 use crate::marks::{
     count_off_reads, keys_of, mark_keys, mark_query_reads, marks_of, marks_on, mistakes_on,
     omit_notes,
 };
+use crate::notes::complete_notes;
 use crate::source::Source;
 use esr_chart::{
     Arrow, Drawn, Farthest, Format, Heads, Lane, Layout, Mark, Nearest, Order, Rest, Scene,
@@ -680,6 +679,9 @@ fn material_about<'a>(
     let farthest = farthest_read(alloc, source, query, causes, trace, &all)?;
     let nearest = nearest_to(alloc, source, query)?;
     let mut material = material_on(alloc, source, Some(query), lanes, charges)?;
+    if let Some(lane) = lane_at(&material.lanes, query) {
+        complete_notes(source, causes, &mut material.marks, lane);
+    }
     material.causes = of_reads;
     material.farthest = farthest;
     material.nearest = nearest;

@@ -1,10 +1,12 @@
-//! What explains the value of a read: the write of it, or of the value that its item has in the nearest placement.
+//! What explains the value of a read: the write of it, or of the value that its item has in the nearest placement. If the
+//! update was not charged, the note names the charged update that it follows (`predecessors`).
 //!
 //! Both are found along the entries of the item, from the read or from the last entry back. An update holds the lock of an
 //! item until it ends, so the last write of an update before the placement is that of the value there.
 
+use crate::causes::Causes;
 use crate::source::Source;
-use esr_chart::Note;
+use esr_chart::{Mark, Note};
 use esr_history::{Event, TxnId};
 use esr_items::ItemId;
 use esr_outcomes::{TxnOutcome, outcome_of};
@@ -75,6 +77,35 @@ fn wrote<'a>(source: Source<'a>, write: Write) -> Note<'a> {
         update: name_of_transaction(source.transactions, write.update),
         value: write.value,
         place: write.place,
+        follows: "",
+    }
+}
+
+/// Returns the name of the charged update that the writer of an entry follows, or nothing if it was charged itself or is
+/// before the nearest placement.
+fn followed_by<'a>(source: Source<'a>, causes: &Causes, place: usize) -> &'a str {
+    let Some(write) = write_at(source, place as u64) else {
+        return "";
+    };
+    match causes.cause_of(write.update) {
+        Some(cause) if cause != write.update => name_of_transaction(source.transactions, cause),
+        _ => "",
+    }
+}
+
+/// Completes the notes at the reads of the lane of a query with these causes.
+pub fn complete_notes<'a>(
+    source: Source<'a>,
+    causes: &Causes,
+    marks: &mut [Mark<'a>],
+    query_lane: usize,
+) {
+    for mark in marks {
+        if mark.lane == query_lane
+            && let Some(Note::Wrote { place, follows, .. }) = &mut mark.note
+        {
+            *follows = followed_by(source, causes, *place);
+        }
     }
 }
 
