@@ -31,6 +31,9 @@ const MAX_NAMES: usize = 3;
 #[derive(Clone, Copy)]
 struct Extent {
     updates: usize,
+    /// Whether the relevant updates after the line are left out, since a lane is wider with an update that does not bound its
+    /// version at the line.
+    is_before_line: bool,
     /// The values that were read within each stretch of several.
     reads: usize,
 }
@@ -38,17 +41,18 @@ struct Extent {
 impl Extent {
     /// Returns the extent of the next try, of a scene in which `fitting` updates would fit.
     fn reduced(self, fitting: usize, tries: u32) -> Extent {
+        let mut reduced = self;
         if self.updates == 0 {
-            return Extent {
-                updates: 0,
-                reads: self.reads.saturating_sub(1),
-            };
+            reduced.reads = self.reads.saturating_sub(1);
+        } else if self.updates == 1 && !self.is_before_line {
+            reduced.is_before_line = true;
+        } else if tries < MAX_TRIES {
+            let less = self.updates.saturating_sub(1);
+            reduced.updates = fitting.max(1).min(less);
+        } else {
+            reduced.updates = 0;
         }
-        let updates = fitting.min(self.updates.saturating_sub(1));
-        Extent {
-            updates: if tries < MAX_TRIES { updates } else { 0 },
-            reads: self.reads,
-        }
+        reduced
     }
 }
 
@@ -95,6 +99,17 @@ fn relevant_positions(
     Ok(relevant)
 }
 
+/// Returns the positions that are in a set, in their order.
+fn common(alloc: Global, positions: &[u32], set: &[u32]) -> Result<Vec<u32>, AllocError> {
+    let mut common = Vec::new(alloc);
+    for position in positions {
+        if set.contains(position) {
+            common.push(*position)?;
+        }
+    }
+    Ok(common)
+}
+
 /// The data from which all scenes of a query are built.
 #[derive(Drop)]
 struct Source<'a> {
@@ -105,6 +120,8 @@ struct Source<'a> {
     unwritten: Vec<bool>,
     /// The updates to draw first, by their positions.
     relevant: Vec<u32>,
+    /// Those of them that are before the line.
+    relevant_before: Vec<u32>,
 }
 
 impl<'a> Source<'a> {
@@ -116,13 +133,25 @@ impl<'a> Source<'a> {
         let problem = &audited.finding.problem;
         let begun = audited.history.begun_count();
         let positions = Positions::new(alloc, problem.updates(), begun)?;
+        let relevant = relevant_positions(alloc, audited, trace, &positions)?;
+        let set = &audited.finding.certificate.set;
         Ok(Source {
             audited,
             trace,
             unwritten: unwritten(alloc, audited.history, problem.chains())?,
-            relevant: relevant_positions(alloc, audited, trace, &positions)?,
+            relevant_before: common(alloc, &relevant, set)?,
+            relevant,
             positions,
         })
+    }
+
+    /// Returns the updates to draw first in a scene of this extent.
+    fn relevant(&self, extent: Extent) -> &[u32] {
+        if extent.is_before_line {
+            &self.relevant_before
+        } else {
+            &self.relevant
+        }
     }
 
     fn problem(&self) -> &'a Problem {
@@ -193,7 +222,7 @@ impl<'a, 'b> SceneParts<'a, 'b> {
             &finding.problem,
             &finding.certificate.set,
             &source.unwritten,
-            &source.relevant,
+            source.relevant(extent),
             extent.updates,
         )?;
         let drawn = drawn_in_order(alloc, &choice)?;
@@ -436,10 +465,11 @@ pub fn scene_of<'a>(
     let source = Source::new(alloc, audited, trace)?;
     let mut extent = Extent {
         updates: MAX_UPDATES,
+        is_before_line: false,
         reads: 2,
     };
     let mut scene = scene_with(alloc, &source, extent)?;
-    for tries in 1..MAX_TRIES + 3 {
+    for tries in 1..MAX_TRIES + 5 {
         let Some(fitting) = updates_to_keep(alloc, &scene)? else {
             break;
         };
