@@ -217,7 +217,8 @@ fn name_at<'a>(scene: &Scene<'a>, lane: usize) -> &'a str {
     scene.lanes.get(lane).map_or("", |lane| lane.name)
 }
 
-/// Returns the upper and the lower edge of the rows of the head above a lane that are at x, if there are any.
+/// Returns the upper and the lower edge of the rows of the head above a lane that are at x, if there are any. The lower edge
+/// of the last row is that of the head.
 fn gap_of_head(lane: &Lane<'_>, band: &Band<'_>, number: usize, x: u32) -> Option<(u32, u32)> {
     let span = band.span(number);
     if !span.is_drawn || !band.has_heads_above() {
@@ -232,8 +233,10 @@ fn gap_of_head(lane: &Lane<'_>, band: &Band<'_>, number: usize, x: u32) -> Optio
         (false, false, false) => return None,
     };
     let bottom = match (left < second, left < first) {
-        (true, _) => 43,
+        (true, _) => 46,
+        (false, true) if second == 0 => 33,
         (false, true) => 30,
+        (false, false) if first == 0 => 20,
         (false, false) => 17,
     };
     let edge = band.head_top(number);
