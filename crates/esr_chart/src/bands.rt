@@ -1,11 +1,11 @@
-//! The bands of a timeline: lanes, charges, heads, marks and the axis, each over the ones before. An arrow may cross a head
-//! that is above its lane; the head has a halo, so it stays legible.
+//! The bands of a timeline: lanes, charges, heads, marks and the axis, each over the ones before. The columns are placed so
+//! that no arrow crosses a label. It may pass a head that is above a lane; it has a gap there.
 
 use crate::elements::{close_text, open_centred, open_rect, open_text, push_text, push_vertical};
 use crate::head::prefix_of;
 use crate::layout::{
-    Band, Column, GAP, Layout, MARGIN, STEP_ROW, Span, TEXT_ROW, charges_between, column_at,
-    fits_one_row, limit_width, name_width,
+    Band, Column, GAP, Layout, MARGIN, STEP_ROW, Span, TEXT_ROW, charges_at, charges_between,
+    column_at, fits_one_row, limit_width, name_width, rows_above,
 };
 use crate::limits::push_limit;
 use crate::scene::{Arrow, Lane, Scene};
@@ -217,6 +217,129 @@ fn name_at<'a>(scene: &Scene<'a>, lane: usize) -> &'a str {
     scene.lanes.get(lane).map_or("", |lane| lane.name)
 }
 
+/// Returns the upper and the lower edge of the rows of the head above a lane that are at x, if there are any. The lower edge
+/// of the last row is that of the head.
+fn gap_of_head(lane: &Lane<'_>, band: &Band<'_>, number: usize, x: u32) -> Option<(u32, u32)> {
+    let span = band.span(number);
+    if !span.is_drawn || !band.has_heads_above() {
+        return None;
+    }
+    let left = x.saturating_sub(4);
+    let (name, first, second) = rows_above(lane, span.has_head);
+    let top = match (left < name, left < first, left < second) {
+        (true, _, _) => 0,
+        (false, true, _) => 15,
+        (false, false, true) => 28,
+        (false, false, false) => return None,
+    };
+    let bottom = match (left < second, left < first) {
+        (true, _) => 46,
+        (false, true) if second == 0 => 33,
+        (false, true) => 30,
+        (false, false) if first == 0 => 20,
+        (false, false) => 17,
+    };
+    let edge = band.head_top(number);
+    Some((edge.saturating_add(top), edge.saturating_add(bottom)))
+}
+
+/// Returns the upper and the lower edge of the text of another charge of an entry, to the query of this lane.
+fn gap_of_charge(
+    arrows: &[Arrow<'_>],
+    band: &Band<'_>,
+    number: usize,
+    place: usize,
+) -> Option<(u32, u32)> {
+    let mut charges = charges_at(arrows, place).iter();
+    if !charges.any(|arrow| arrow.to == number) {
+        return None;
+    }
+    let span = band.span(number);
+    let top = band
+        .lane_top(number)
+        .saturating_add(span.amount_row())
+        .saturating_sub(11);
+    Some((
+        top,
+        top.saturating_add(span.charge_height()).saturating_add(2),
+    ))
+}
+
+/// Appends the end of a part of an arrow, and the start of the next one, in the direction of the arrow.
+fn push_gap(
+    out: &mut String,
+    gap: Option<(u32, u32)>,
+    is_upward: bool,
+    x: u32,
+) -> Result<(), AllocError> {
+    match gap {
+        Some((top, bottom)) if is_upward => write!(out, "V{bottom}M{x} {top}"),
+        Some((top, bottom)) => write!(out, "V{top}M{x} {bottom}"),
+        None => Ok(()),
+    }
+}
+
+/// Appends the way of the arrow of a charge up to the lane of the query, with gaps at the texts that it passes.
+fn push_upward(
+    out: &mut String,
+    scene: &Scene<'_>,
+    band: &Band<'_>,
+    arrow: &Arrow<'_>,
+    from: usize,
+    x: u32,
+) -> Result<(), AllocError> {
+    let count = from.saturating_sub(arrow.to);
+    for place in 0..count {
+        let number = from.saturating_sub(place);
+        if number != from {
+            let gap = gap_of_charge(&scene.arrows, band, number, arrow.place);
+            push_gap(out, gap, true, x)?;
+        }
+        if let Some(lane) = scene.lanes.get(number) {
+            push_gap(out, gap_of_head(lane, band, number, x), true, x)?;
+        }
+    }
+    Ok(())
+}
+
+/// Appends the way of the arrow of a charge down to the lane of the query, with gaps at the texts that it passes.
+fn push_downward(
+    out: &mut String,
+    scene: &Scene<'_>,
+    band: &Band<'_>,
+    arrow: &Arrow<'_>,
+    from: usize,
+    x: u32,
+) -> Result<(), AllocError> {
+    for number in from.saturating_add(1)..arrow.to {
+        if let Some(lane) = scene.lanes.get(number) {
+            push_gap(out, gap_of_head(lane, band, number, x), false, x)?;
+        }
+        let gap = gap_of_charge(&scene.arrows, band, number, arrow.place);
+        push_gap(out, gap, false, x)?;
+    }
+    Ok(())
+}
+
+/// Appends the way of the arrow of a charge from the lane of the update.
+fn push_way(
+    out: &mut String,
+    scene: &Scene<'_>,
+    band: &Band<'_>,
+    arrow: &Arrow<'_>,
+    from: usize,
+) -> Result<(), AllocError> {
+    let x = x_at(&band.columns, arrow.place);
+    let (start, end) = ends_of(band, arrow.place, from, arrow.to);
+    write!(out, "M{x} {start}")?;
+    if from > arrow.to {
+        push_upward(out, scene, band, arrow, from, x)?;
+    } else {
+        push_downward(out, scene, band, arrow, from, x)?;
+    }
+    write!(out, "V{end}")
+}
+
 /// Appends the arrow of a charge.
 fn push_arrow(
     out: &mut String,
@@ -228,12 +351,12 @@ fn push_arrow(
         return Ok(());
     };
     let prefix = prefix_of(scene);
-    let x = x_at(&band.columns, arrow.place);
-    let (start, end) = ends_of(band, arrow.place, from, arrow.to);
     write!(
         out,
-        "<path class='ar' marker-end='url(#{prefix}-timeline-tip)' d='M{x} {start}V{end}'>"
+        "<path class='ar' marker-end='url(#{prefix}-timeline-tip)' d='"
     )?;
+    push_way(out, scene, band, arrow, from)?;
+    out.push_str("'>")?;
     let update = name_at(scene, from);
     push_charge_title(out, update, name_at(scene, arrow.to), arrow)?;
     out.push_str("</path>\n")
@@ -274,6 +397,30 @@ fn push_change_in_rows(
     close_text(out)
 }
 
+/// Appends the amount of a charge with its item, in one row or in two. Returns the baseline of the last row.
+fn push_amount_words(
+    out: &mut String,
+    column: &Column<'_>,
+    arrow: &Arrow<'_>,
+    y: u32,
+) -> Result<u32, AllocError> {
+    open_centred(out, "lb rd ha", column.x, y)?;
+    out.push('+')?;
+    push_number(out, arrow.amount)?;
+    let mut last = y;
+    if column.is_folded {
+        close_text(out)?;
+        last = y.saturating_add(TEXT_ROW);
+        open_centred(out, "lb rd ha", column.x, last)?;
+    } else {
+        out.push(' ')?;
+    }
+    out.push_str("for ")?;
+    out.push_str(arrow.item)?;
+    close_text(out)?;
+    Ok(last)
+}
+
 /// Appends the amount of a charge, below the lane of the query, and the change below it.
 fn push_amount(out: &mut String, band: &Band<'_>, arrow: &Arrow<'_>) -> Result<(), AllocError> {
     let Some(column) = column_at(&band.columns, arrow.place) else {
@@ -281,11 +428,7 @@ fn push_amount(out: &mut String, band: &Band<'_>, arrow: &Arrow<'_>) -> Result<(
     };
     let top = band.lane_top(arrow.to);
     let y = top.saturating_add(band.span(arrow.to).amount_row());
-    open_centred(out, "lb rd ha", column.x, y)?;
-    out.push('+')?;
-    push_number(out, arrow.amount)?;
-    close_text(out)?;
-    let y = y.saturating_add(TEXT_ROW);
+    let y = push_amount_words(out, column, arrow, y)?.saturating_add(TEXT_ROW);
     if column.is_folded {
         push_change_in_rows(out, arrow, column.x, y)
     } else {

@@ -1,7 +1,7 @@
 //! The right edges of the texts of a band, from which the columns get their distances.
 
 use crate::layout::{Column, GAP, MARGIN, width_of};
-use crate::scene::{Action, Arrow, Lane, Mark};
+use crate::scene::{Action, Arrow, Lane, Mark, Note};
 use esr_text::{letters_of, number_letters};
 use esr_trace::outcome_words;
 use std::alloc::{AllocError, Global};
@@ -48,6 +48,46 @@ fn off_letters(value: i64, there: i64, is_folded: bool) -> usize {
     }
 }
 
+/// Returns the letters of the longer of `u1 wrote 1,500` and `in step 57`.
+fn write_letters(update: &str, value: i64, place: usize) -> usize {
+    let wrote = update.len().saturating_add(letters_of(value));
+    let step = number_letters((place as u64).saturating_add(1));
+    wrote.saturating_add(7).max(step.saturating_add(8))
+}
+
+/// Returns the letters of `u2 follows u1`, or 0 if the update follows none.
+fn follows_letters(update: &str, follows: &str) -> usize {
+    if follows.is_empty() {
+        return 0;
+    }
+    let names = update.len().saturating_add(follows.len());
+    names.saturating_add(9)
+}
+
+/// Returns the letters of the longest row of the note at a mark.
+fn note_letters(mark: &Mark<'_>) -> usize {
+    match mark.note {
+        Some(
+            Note::Wrote {
+                update,
+                value,
+                place,
+                follows,
+            },
+        ) => {
+            let write = if mark.has_note {
+                write_letters(update, value, place)
+            } else {
+                0
+            };
+            write.max(follows_letters(update, follows))
+        }
+        // `as u1 wrote`, or `as at the start`
+        Some(Note::Equals { update }) => update.len().saturating_add(9).max(15),
+        None => 0,
+    }
+}
+
 /// Returns the letters below a mark.
 fn value_letters(mark: &Mark<'_>, is_folded: bool) -> usize {
     match mark.action {
@@ -82,7 +122,8 @@ fn item_letters(mark: &Mark<'_>) -> usize {
 fn half_label(column: &Column<'_>) -> u32 {
     if column.has_label {
         let below = value_letters(&column.mark, column.is_folded);
-        half_of(item_letters(&column.mark).max(below))
+        let note = note_letters(&column.mark);
+        half_of(item_letters(&column.mark).max(below).max(note))
     } else {
         0
     }
@@ -112,10 +153,20 @@ fn change_letters(arrow: &Arrow<'_>, is_folded: bool) -> usize {
     }
 }
 
+/// Returns the letters of the amount of a charge and of its item: `+100 for savings`.
+fn amount_letters(arrow: &Arrow<'_>, is_folded: bool) -> usize {
+    let amount = number_letters(arrow.amount).saturating_add(1);
+    let item = arrow.item.len().saturating_add(4);
+    if is_folded {
+        amount.max(item)
+    } else {
+        amount.saturating_add(item).saturating_add(1)
+    }
+}
+
 /// Returns half of the width of the text of a charge.
 fn half_charge(arrow: &Arrow<'_>, is_folded: bool) -> u32 {
-    let amount = number_letters(arrow.amount).saturating_add(1);
-    half_of(amount.max(change_letters(arrow, is_folded)))
+    half_of(amount_letters(arrow, is_folded).max(change_letters(arrow, is_folded)))
 }
 
 /// Returns the width of the outcome of a lane.
@@ -138,6 +189,19 @@ fn lanes_crossed(arrow: &Arrow<'_>) -> (usize, usize) {
     (from.min(arrow.to), from.max(arrow.to))
 }
 
+/// Returns the lanes whose labels the arrow of a charge must not cross, from the first to before the last: those between its
+/// ends, and that of the update unless the mark is on it.
+fn lanes_passed(arrow: &Arrow<'_>, mark_lane: usize) -> (usize, usize) {
+    let from = arrow.from.unwrap_or(arrow.to);
+    let more = if mark_lane == from { 0 } else { 1 };
+    if from > arrow.to {
+        (arrow.to.saturating_add(1), from.saturating_add(more))
+    } else {
+        let first = from.saturating_add(1).saturating_sub(more);
+        (first.min(arrow.to), arrow.to)
+    }
+}
+
 /// Returns how many rows the steps of some columns take.
 pub fn step_rows(columns: &[Column<'_>]) -> u32 {
     let mut rows = 1u32;
@@ -156,6 +220,14 @@ fn edge_at(edges: &[u32], lane: usize) -> u32 {
 fn set_edge(edges: &mut [u32], lane: usize, edge: u32) {
     if let Some(place) = edges.get_mut(lane) {
         *place = edge;
+    }
+}
+
+/// Raises the edges of some lanes, from the first to before the last.
+fn raise_edges(edges: &mut [u32], (first, last): (usize, usize), edge: u32) {
+    for lane in first..last {
+        let greatest = edge_at(edges, lane).max(edge);
+        set_edge(edges, lane, greatest);
     }
 }
 
@@ -211,14 +283,28 @@ impl Edges {
         }
     }
 
-    /// Returns the least x at which the texts of these charges meet no other ones, and the arrows neither labels of the
-    /// query nor outcomes.
-    fn least_for_charges(&self, arrows: &[Arrow<'_>]) -> u32 {
+    /// Returns the least x at which an arrow meets no label and no charge of the lanes that it passes.
+    fn least_beside_labels(&self, arrow: &Arrow<'_>, mark_lane: usize) -> u32 {
+        let (first, last) = lanes_passed(arrow, mark_lane);
+        let labels = self.labels.get(first..last).unwrap_or(&[]);
+        let charges = self.charges.get(first..last).unwrap_or(&[]);
+        let edge = greatest_of(labels).max(greatest_of(charges));
+        if edge > self.left {
+            edge.saturating_add(GAP)
+        } else {
+            0
+        }
+    }
+
+    /// Returns the least x at which the texts of these charges meet no other ones, and the arrows neither labels nor
+    /// outcomes.
+    fn least_for_charges(&self, arrows: &[Arrow<'_>], mark_lane: usize) -> u32 {
         let mut least = 0u32;
         for arrow in arrows {
             let edge = edge_at(&self.charges, arrow.to).saturating_add(GAP);
             least = least
                 .max(edge.saturating_add(half_charge(arrow, self.is_folded)))
+                .max(self.least_beside_labels(arrow, mark_lane))
                 .max(self.least_for_arrow(arrow));
             if is_downward(arrow) {
                 least = least
@@ -246,7 +332,7 @@ impl Edges {
     /// Returns the least x of a column with these charges.
     pub fn least(&self, column: &Column<'_>, charges: &[Arrow<'_>]) -> u32 {
         self.least_for_label(column.mark.lane, half_label(column))
-            .max(self.least_for_charges(charges))
+            .max(self.least_for_charges(charges, column.mark.lane))
             .max(self.least_for_step(half_step(column)))
     }
 
@@ -274,8 +360,11 @@ impl Edges {
     }
 
     /// Notes the texts of these charges at x, and the arrows.
-    fn note_charges(&mut self, arrows: &[Arrow<'_>], x: u32) {
+    fn note_charges(&mut self, arrows: &[Arrow<'_>], mark_lane: usize, x: u32) {
         for arrow in arrows {
+            let passed = lanes_passed(arrow, mark_lane);
+            raise_edges(&mut self.labels, passed, x);
+            raise_edges(&mut self.charges, passed, x);
             set_edge(
                 &mut self.charges,
                 arrow.to,
@@ -301,7 +390,7 @@ impl Edges {
         if after > 0 {
             set_edge(&mut self.outcomes, lane, x.saturating_add(after));
         }
-        self.note_charges(charges, x);
+        self.note_charges(charges, lane, x);
     }
 
     /// Returns the farthest that any label or charge reaches.

@@ -8,7 +8,7 @@
 
 use crate::edges::{Edges, outcome_width, step_rows};
 use crate::limits::has_bar;
-use crate::scene::{Action, Arrow, Lane, Mark};
+use crate::scene::{Action, Arrow, Lane, Mark, Note};
 use crate::titles::kind_of;
 use esr_history::MAX_LIMIT;
 use esr_text::number_letters;
@@ -120,6 +120,8 @@ pub struct Span {
     /// True if a charge of the band is to its transaction.
     has_charges: bool,
     is_folded: bool,
+    /// The rows of the longest note at a read of the band.
+    note_rows: u32,
 }
 
 /// Columns next to each other, with the lanes of the transactions that are active there.
@@ -207,6 +209,25 @@ fn width_above(lane: &Lane<'_>) -> u32 {
         limit_width(lane).max(width_of(charged_letters(lane)))
     };
     name.max(amounts)
+}
+
+/// Returns the right edges of the rows above a lane, from the name down, or 0 for a row that there is not.
+pub fn rows_above(lane: &Lane<'_>, has_head: bool) -> (u32, u32, u32) {
+    let name = MARGIN.saturating_add(name_width(lane));
+    if !has_head {
+        return (name, 0, 0);
+    }
+    let kind = width_of(kind_of(lane).len());
+    let first = name.saturating_add(GAP).saturating_add(kind);
+    if fits_one_row(lane) {
+        return (first, MARGIN.saturating_add(amounts_width(lane)), 0);
+    }
+    let charged = width_of(charged_letters(lane));
+    (
+        first,
+        MARGIN.saturating_add(limit_width(lane)),
+        MARGIN.saturating_add(charged),
+    )
 }
 
 /// Returns the left edge of the lanes, and the right edge of the texts above them.
@@ -387,7 +408,31 @@ fn span_of(columns: &[Column<'_>], life: Life, left: u32, open_end: u32, is_last
         has_outcome: end.is_some() || (is_last && life.end.is_none()),
         has_charges: false,
         is_folded: columns.first().is_some_and(|column| column.is_folded),
+        note_rows: 0,
     }
+}
+
+/// Returns the rows of the note at a column that is drawn.
+fn rows_of_note(column: &Column<'_>) -> u32 {
+    match column.mark.note {
+        Some(Note::Wrote { follows, .. }) if column.has_label => {
+            let write = if column.mark.has_note { 2 } else { 0 };
+            if follows.is_empty() { write } else { write + 1 }
+        }
+        Some(Note::Equals { .. }) if column.has_label => 1,
+        _ => 0,
+    }
+}
+
+/// Returns the rows of the longest note at a read of a lane.
+fn note_rows(columns: &[Column<'_>], lane: usize) -> u32 {
+    let mut rows = 0u32;
+    for column in columns {
+        if column.mark.lane == lane {
+            rows = rows.max(rows_of_note(column));
+        }
+    }
+    rows
 }
 
 /// Returns the height of the texts above the part of a lane.
@@ -444,6 +489,7 @@ fn push_spans(
     for (lane, life) in drawn.lanes.iter().zip(lives.iter()) {
         let mut span = span_of(&band.columns, *life, band.left, open_end, is_last);
         span.has_charges = charges.iter().any(|charge| charge.to == number);
+        span.note_rows = note_rows(&band.columns, number);
         band.height = place_span(&mut span, lane, band.heads, band.height);
         band.spans.push(span)?;
         number = number.saturating_add(1);
@@ -570,25 +616,35 @@ pub fn layout_of<'a>(
 }
 
 impl Span {
-    /// Returns the rows below the lane of a query that the second values of its reads take.
-    fn second_row(&self) -> u32 {
-        if self.is_folded { TEXT_ROW } else { 0 }
+    /// Returns the height of the rows below the lane of a query that the second values of its reads and their notes take.
+    fn more_rows(&self) -> u32 {
+        let second = if self.is_folded { TEXT_ROW } else { 0 };
+        second.saturating_add(self.note_rows.saturating_mul(TEXT_ROW))
     }
 
-    /// Returns the baseline of the amount of a charge, below the upper edge of the lane. The change is on the next row, or
-    /// on the next two.
+    /// Returns the height of the text of a charge: the amount with its item, and the change, each in one row or in two.
+    pub fn charge_height(&self) -> u32 {
+        if self.is_folded {
+            4 * TEXT_ROW
+        } else {
+            2 * TEXT_ROW
+        }
+    }
+
+    /// Returns the baseline of the amount of a charge, below the upper edge of the lane. Its item and the change are on the
+    /// same row and the next one, or on the next three.
     pub fn amount_row(&self) -> u32 {
-        self.second_row().saturating_add(57)
+        self.more_rows().saturating_add(57)
     }
 
     /// Returns the upper edge of the bar of the limit, below that of the lane.
     pub fn bar_row(&self) -> u32 {
         let charges = if self.has_charges {
-            self.second_row().saturating_add(26)
+            self.charge_height()
         } else {
             0
         };
-        self.second_row().saturating_add(charges).saturating_add(49)
+        self.more_rows().saturating_add(charges).saturating_add(49)
     }
 
     /// Returns the end of an arrow from below, below the upper edge of the lane.
@@ -601,7 +657,7 @@ impl Span {
         if self.has_charges || has_bar {
             self.arrow_row()
         } else {
-            self.second_row().saturating_add(VALUES_HEIGHT)
+            self.more_rows().saturating_add(VALUES_HEIGHT)
         }
     }
 
@@ -624,6 +680,7 @@ impl<'a> Band<'a> {
             has_outcome: false,
             has_charges: false,
             is_folded: false,
+            note_rows: 0,
         };
         self.spans.get(lane).copied().unwrap_or(none)
     }

@@ -54,6 +54,24 @@ pub enum Cause {
     Export,
 }
 
+/// What explains the value of a read.
+#[derive(Clone, Copy, PartialEq, Eq)]
+pub enum Note<'a> {
+    /// The read is off: an update that is not before the nearest placement wrote the value, or one before it the value
+    /// there, in the entry at this index. If an update that was not charged follows a charged one, this is `follows`.
+    Wrote {
+        update: &'a str,
+        value: i64,
+        place: usize,
+        follows: &'a str,
+    },
+    /// The read is exact, although the writer of its value is not before the nearest placement: the value is also that
+    /// of this update, or the opening value if this is nothing.
+    Equals {
+        update: &'a str,
+    },
+}
+
 /// A mark on a lane: an entry of the log.
 #[derive(Clone, Copy)]
 pub struct Mark<'a> {
@@ -71,6 +89,10 @@ pub struct Mark<'a> {
     pub blocker: &'a str,
     /// True if a drawn charge depends on it, if it was blocked, or if it is a read that is off.
     pub is_key: bool,
+    /// What explains the value of a read, if that needs an explanation.
+    pub note: Option<Note<'a>>,
+    /// False if the note need not name the write, since that is drawn.
+    pub has_note: bool,
 }
 
 /// A charge, from an update to the query of a lane.
@@ -128,12 +150,14 @@ pub enum Order {
     ByTransaction,
 }
 
-/// The nearest placement of a query that is off.
+/// The nearest placement of a committed query.
 #[derive(Clone, Copy)]
 pub struct Nearest<'a> {
     pub query: &'a str,
-    /// The number of updates before it.
+    pub is_exact: bool,
+    /// The number of updates before it, and of all that committed before the query did.
     pub updates: u64,
+    pub committed: u64,
     /// The name of the one of them that committed last, or nothing.
     pub last: &'a str,
     /// The step in which that update committed.
@@ -162,6 +186,15 @@ pub struct Farthest<'a> {
     pub reason: Option<Reason<'a>>,
 }
 
+/// The entries that were refused for a mistake, which have no mark.
+#[derive(Clone, Copy)]
+pub struct Mistakes {
+    pub count: u64,
+    /// The steps of the first and of the second of them, or 0.
+    pub first: u64,
+    pub second: u64,
+}
+
 /// The numbers of transactions, events and charges that are not drawn.
 #[derive(Clone, Copy)]
 pub struct Rest {
@@ -186,7 +219,9 @@ pub struct Scene<'a> {
     pub all_charges: Vec<Arrow<'a>>,
     pub order: Order,
     pub rest: Rest,
-    /// The nearest placement of the query that the timeline is about, or of the farthest one, if that is off.
+    /// The entries of the drawn transactions, or of the whole script, that were refused for a mistake.
+    pub mistakes: Mistakes,
+    /// The nearest placement of the query that the timeline is about, or of the farthest one.
     pub nearest: Option<Nearest<'a>>,
     /// The farthest read of that query, if it is off.
     pub farthest: Option<Farthest<'a>>,

@@ -2,7 +2,7 @@
 
 use crate::elements::{close_text, open_centred, push_circle, push_cross, push_square};
 use crate::layout::{Band, Column, TEXT_ROW};
-use crate::scene::{Action, Cause, Lane, Scene};
+use crate::scene::{Action, Cause, Lane, Note, Scene};
 use crate::titles::push_mark_title;
 use esr_text::{push_number, push_value};
 use std::alloc::AllocError;
@@ -49,6 +49,76 @@ fn push_values(
     out.push_str("not ")?;
     push_value(out, there)?;
     close_text(out)
+}
+
+/// Appends the write that explains a read, in two rows.
+fn push_write(
+    out: &mut String,
+    update: &str,
+    value: i64,
+    place: usize,
+    x: u32,
+    y: u32,
+) -> Result<(), AllocError> {
+    open_centred(out, "lb rd ha", x, y)?;
+    write!(out, "{update} wrote ")?;
+    push_value(out, value)?;
+    close_text(out)?;
+    open_centred(out, "lb rd ha", x, y.saturating_add(TEXT_ROW))?;
+    out.push_str("in step ")?;
+    push_number(out, (place as u64).saturating_add(1))?;
+    close_text(out)
+}
+
+/// Appends which charged update an update follows.
+fn push_follows(
+    out: &mut String,
+    update: &str,
+    follows: &str,
+    x: u32,
+    y: u32,
+) -> Result<(), AllocError> {
+    open_centred(out, "lb rd ha", x, y)?;
+    write!(out, "{update} follows {follows}")?;
+    close_text(out)
+}
+
+/// Appends which update wrote the same as a read returned, or that it is the opening value.
+fn push_equal(out: &mut String, update: &str, x: u32, y: u32) -> Result<(), AllocError> {
+    open_centred(out, "lb gy ha", x, y)?;
+    if update.is_empty() {
+        out.push_str("as at the start")?;
+    } else {
+        write!(out, "as {update} wrote")?;
+    }
+    close_text(out)
+}
+
+/// Appends the note below the values of a read, if it has one.
+fn push_note(out: &mut String, column: &Column<'_>, y: u32) -> Result<(), AllocError> {
+    let mark = &column.mark;
+    match mark.note {
+        Some(
+            Note::Wrote {
+                update,
+                value,
+                place,
+                follows,
+            },
+        ) => {
+            let mut y = y;
+            if mark.has_note {
+                push_write(out, update, value, place, column.x, y)?;
+                y = y.saturating_add(2 * TEXT_ROW);
+            }
+            if follows.is_empty() {
+                return Ok(());
+            }
+            push_follows(out, update, follows, column.x, y)
+        }
+        Some(Note::Equals { update }) => push_equal(out, update, column.x, y),
+        None => Ok(()),
+    }
 }
 
 /// Appends the lock or the limit that blocked an event.
@@ -98,11 +168,18 @@ fn push_value_label(
         Action::Read {
             value,
             nearest: None,
-        } => push_mark_value(out, value, column.x, y),
+        } => {
+            push_mark_value(out, value, column.x, y)?;
+            push_note(out, column, y.saturating_add(TEXT_ROW))
+        }
         Action::Read {
             value,
             nearest: Some(there),
-        } => push_values(out, column, value, there, y),
+        } => {
+            push_values(out, column, value, there, y)?;
+            let rows = if column.is_folded { 2 } else { 1 };
+            push_note(out, column, y.saturating_add(TEXT_ROW * rows))
+        }
         Action::Write { value } => push_mark_value(out, value, column.x, y),
         Action::Blocked { cause, times, .. } => push_blocker(out, lane, column, (cause, times), y),
         Action::Begin | Action::Commit | Action::Abort => Ok(()),

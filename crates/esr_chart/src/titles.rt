@@ -1,6 +1,6 @@
 //! The titles of marks and charges, which are shown when a pointer is over them.
 
-use crate::scene::{Action, Arrow, Cause, Lane, Mark};
+use crate::scene::{Action, Arrow, Cause, Lane, Mark, Note};
 use esr_outcomes::TxnKind;
 use esr_text::{push_number, push_value};
 use esr_trace::outcome_words;
@@ -66,6 +66,32 @@ fn push_nearest(out: &mut String, nearest: Option<i64>) -> Result<(), AllocError
     }
 }
 
+/// Appends what explains the value of a read.
+fn push_note(out: &mut String, note: Option<Note<'_>>) -> Result<(), AllocError> {
+    match note {
+        Some(
+            Note::Wrote {
+                update,
+                value,
+                place,
+                follows,
+            },
+        ) => {
+            write!(out, "; {update} wrote ")?;
+            push_value(out, value)?;
+            out.push_str(" in step ")?;
+            push_number(out, (place as u64).saturating_add(1))?;
+            if follows.is_empty() {
+                return Ok(());
+            }
+            write!(out, " and follows {follows}")
+        }
+        Some(Note::Equals { update }) if update.is_empty() => out.push_str(", as at the start"),
+        Some(Note::Equals { update }) => write!(out, ", as {update} wrote"),
+        None => Ok(()),
+    }
+}
+
 /// Appends what happened at a mark.
 fn push_action(out: &mut String, lane: &Lane<'_>, mark: &Mark<'_>) -> Result<(), AllocError> {
     let name = lane.name;
@@ -79,7 +105,8 @@ fn push_action(out: &mut String, lane: &Lane<'_>, mark: &Mark<'_>) -> Result<(),
         Action::Read { value, nearest } => {
             write!(out, "{name} read {item}: ")?;
             push_value(out, value)?;
-            push_nearest(out, nearest)
+            push_nearest(out, nearest)?;
+            push_note(out, mark.note)
         }
         Action::Write { value } => {
             write!(out, "{name} wrote {item}: ")?;

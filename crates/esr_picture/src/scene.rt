@@ -6,7 +6,7 @@
 use crate::arrow_reduction::{Slots, arrows};
 use crate::lanes::{LaneVersions, reads_in, reads_of_values, versions_drawn};
 use crate::observed_reads::{read_counts_by_value, read_flags_by_version, transient_reads_of};
-use crate::selection::{Choice, choose};
+use crate::selection::{Choice, FEW_RELEVANT, choose};
 use crate::titles::{arrow_title, update_title};
 use crate::versions::{Positions, unwritten, versions_of};
 use esr_cert::{Chain, Problem};
@@ -17,12 +17,12 @@ use esr_svg::{
     Arrow, Deciding, Lane, LaneReads, LaneSegment, MAX_UPDATES, Scene, Update, updates_to_keep,
 };
 use esr_text::first;
-use esr_trace::{Audited, QueryTrace, sentences_of};
+use esr_trace::{Audited, Placement, QueryTrace, relevant_updates, sentences_of};
 use std::alloc::{AllocError, Global};
 
 /// The number of times that a scene that is too wide is rebuilt with fewer updates. After that it has no updates, and
 /// then no values read within dotted segments.
-const MAX_TRIES: u32 = 7;
+const MAX_TRIES: u32 = 12;
 
 /// The maximum number of items without a lane that are named.
 const MAX_NAMES: usize = 3;
@@ -31,6 +31,9 @@ const MAX_NAMES: usize = 3;
 #[derive(Clone, Copy)]
 struct Extent {
     updates: usize,
+    /// Whether the relevant updates after the line are left out, since a lane is wider with an update that does not bound its
+    /// version at the line.
+    is_before_line: bool,
     /// The values that were read within each stretch of several.
     reads: usize,
 }
@@ -38,17 +41,18 @@ struct Extent {
 impl Extent {
     /// Returns the extent of the next try, of a scene in which `fitting` updates would fit.
     fn reduced(self, fitting: usize, tries: u32) -> Extent {
+        let mut reduced = self;
         if self.updates == 0 {
-            return Extent {
-                updates: 0,
-                reads: self.reads.saturating_sub(1),
-            };
+            reduced.reads = self.reads.saturating_sub(1);
+        } else if self.updates == 1 && !self.is_before_line {
+            reduced.is_before_line = true;
+        } else if tries < MAX_TRIES {
+            let less = self.updates.saturating_sub(1);
+            reduced.updates = fitting.max(1).min(less);
+        } else {
+            reduced.updates = 0;
         }
-        let updates = fitting.min(self.updates.saturating_sub(1));
-        Extent {
-            updates: if tries < MAX_TRIES { updates } else { 0 },
-            reads: self.reads,
-        }
+        reduced
     }
 }
 
@@ -72,6 +76,40 @@ fn drawn_in_order(alloc: Global, choice: &Choice) -> Result<Vec<u32>, AllocError
     Ok(drawn)
 }
 
+/// Returns the updates to draw first, by their positions: the causes of the reads that are off and, if these are few, those
+/// that were charged most, as in the timeline; without those that are not ahead of the query in commit order.
+fn relevant_positions(
+    alloc: Global,
+    audited: &Audited<'_>,
+    trace: &QueryTrace,
+    positions: &Positions,
+) -> Result<Vec<u32>, AllocError> {
+    let placement = Placement::after(alloc, audited.history, &audited.finding.before)?;
+    let causes = placement.causes(alloc, audited.history, trace)?;
+    let updates = relevant_updates(alloc, trace, &causes, &[], MAX_UPDATES)?;
+    let mut relevant = Vec::new(alloc);
+    for update in &updates {
+        let is_wanted = relevant.len() < FEW_RELEVANT || causes.contains(update);
+        if let Some(position) = positions.of(*update)
+            && is_wanted
+        {
+            relevant.push(position)?;
+        }
+    }
+    Ok(relevant)
+}
+
+/// Returns the positions that are in a set, in their order.
+fn common(alloc: Global, positions: &[u32], set: &[u32]) -> Result<Vec<u32>, AllocError> {
+    let mut common = Vec::new(alloc);
+    for position in positions {
+        if set.contains(position) {
+            common.push(*position)?;
+        }
+    }
+    Ok(common)
+}
+
 /// The data from which all scenes of a query are built.
 #[derive(Drop)]
 struct Source<'a> {
@@ -80,6 +118,10 @@ struct Source<'a> {
     positions: Positions,
     /// For each chain whether its item was never written and has no lane.
     unwritten: Vec<bool>,
+    /// The updates to draw first, by their positions.
+    relevant: Vec<u32>,
+    /// Those of them that are before the line.
+    relevant_before: Vec<u32>,
 }
 
 impl<'a> Source<'a> {
@@ -90,12 +132,26 @@ impl<'a> Source<'a> {
     ) -> Result<Source<'a>, AllocError> {
         let problem = &audited.finding.problem;
         let begun = audited.history.begun_count();
+        let positions = Positions::new(alloc, problem.updates(), begun)?;
+        let relevant = relevant_positions(alloc, audited, trace, &positions)?;
+        let set = &audited.finding.certificate.set;
         Ok(Source {
             audited,
             trace,
-            positions: Positions::new(alloc, problem.updates(), begun)?,
             unwritten: unwritten(alloc, audited.history, problem.chains())?,
+            relevant_before: common(alloc, &relevant, set)?,
+            relevant,
+            positions,
         })
+    }
+
+    /// Returns the updates to draw first in a scene of this extent.
+    fn relevant(&self, extent: Extent) -> &[u32] {
+        if extent.is_before_line {
+            &self.relevant_before
+        } else {
+            &self.relevant
+        }
     }
 
     fn problem(&self) -> &'a Problem {
@@ -166,6 +222,7 @@ impl<'a, 'b> SceneParts<'a, 'b> {
             &finding.problem,
             &finding.certificate.set,
             &source.unwritten,
+            source.relevant(extent),
             extent.updates,
         )?;
         let drawn = drawn_in_order(alloc, &choice)?;
@@ -408,10 +465,11 @@ pub fn scene_of<'a>(
     let source = Source::new(alloc, audited, trace)?;
     let mut extent = Extent {
         updates: MAX_UPDATES,
+        is_before_line: false,
         reads: 2,
     };
     let mut scene = scene_with(alloc, &source, extent)?;
-    for tries in 1..MAX_TRIES + 3 {
+    for tries in 1..MAX_TRIES + 5 {
         let Some(fitting) = updates_to_keep(alloc, &scene)? else {
             break;
         };

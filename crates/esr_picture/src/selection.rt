@@ -1,7 +1,8 @@
 //! Selects the lanes and updates to draw.
 //!
-//! A picture of few updates shows all of them. Otherwise a lane needs the updates that bound its version at the line
-//! and the version nearest to the values read; a dotted segment with a count replaces the updates in between. Lanes
+//! A picture of few updates shows all of them. Otherwise half of the space is for the updates that the timeline of the query
+//! shows first (`relevant_updates`). In the rest a lane needs the updates that bound its version at the line and the version
+//! nearest to the values read; a dotted segment with a count replaces the updates in between. Lanes
 //! that are off are selected first, then those without which the picture would contradict its line (`required_lanes`).
 //! Both are drawn even if there is no space for the updates that they need; the line then crosses a dotted segment.
 //! Omitting such a lane would remove its difference from the sum, and the sum is the subject of the picture.
@@ -14,6 +15,9 @@ use std::alloc::{AllocError, Global};
 
 /// The maximum number of updates of which all are drawn, if there is space.
 const FEW_UPDATES: usize = 8;
+
+/// The least number of relevant updates, of which the first ones are causes of reads that are off.
+pub const FEW_RELEVANT: usize = 3;
 
 /// The version at which the line crosses a lane, and the sum of the differences of the item's reads from it.
 #[derive(Clone, Copy)]
@@ -173,6 +177,7 @@ fn candidates_of(
     crossings: &[Crossing],
     unwritten: &[bool],
     places: &Places,
+    drawn: &[u32],
 ) -> Result<Candidates, AllocError> {
     let chains = problem.chains();
     let ranking = ranking(alloc, crossings)?;
@@ -180,6 +185,8 @@ fn candidates_of(
     let mut lanes = off_lanes(alloc, &mut costs, chains, crossings, places, &ranking)?;
     push_speaking_against(&mut lanes, &mut costs, chains, crossings, places)?;
     let needed = lanes.len();
+    let written = written_lanes(alloc, chains, &ranking, drawn)?;
+    push_others(&mut lanes, &written, unwritten)?;
     push_others(&mut lanes, &ranking, unwritten)?;
     Ok(Candidates { lanes, needed })
 }
@@ -226,6 +233,31 @@ fn push_speaking_against(
         lanes.push(lane)?;
     }
     Ok(())
+}
+
+/// Returns whether one of these updates wrote the item of a lane.
+fn is_written_by(chain: &Chain, updates: &[u32]) -> bool {
+    updates
+        .iter()
+        .any(|update| chain.writers.binary_search(update).is_ok())
+}
+
+/// Returns those of some lanes whose items these updates wrote.
+fn written_lanes(
+    alloc: Global,
+    chains: &[Chain],
+    ranking: &[usize],
+    updates: &[u32],
+) -> Result<Vec<usize>, AllocError> {
+    let mut written = Vec::new(alloc);
+    for lane in ranking {
+        if let Some(chain) = chains.get(*lane)
+            && is_written_by(chain, updates)
+        {
+            written.push(*lane)?;
+        }
+    }
+    Ok(written)
 }
 
 /// Adds the first of the other lanes, as many as may be drawn, without those of items that were never written.
@@ -347,16 +379,19 @@ fn sides_of(
     Ok((before, after))
 }
 
-/// Returns all updates if they are few and there is space for them, otherwise none.
-fn bounded_updates(
+/// Returns all updates if they are few and there is space for them, otherwise the first relevant ones: as many as have half
+/// of the space, and [`FEW_RELEVANT`] if these fit.
+fn first_updates(
     alloc: Global,
     count: usize,
+    relevant: &[u32],
     upper_bound: usize,
 ) -> Result<Vec<u32>, AllocError> {
     if count <= FEW_UPDATES && count <= upper_bound {
         (0..count as u32).collect(alloc)
     } else {
-        Ok(Vec::new(alloc))
+        let count = upper_bound.div_ceil(2).max(FEW_RELEVANT).min(upper_bound);
+        first(relevant, count).to_vec(alloc)
     }
 }
 
@@ -382,10 +417,10 @@ fn draw(
     crossings: &[Crossing],
     unwritten: &[bool],
     places: &Places,
-    upper_bound: usize,
+    (relevant, upper_bound): (&[u32], usize),
 ) -> Result<(Vec<usize>, Vec<u32>), AllocError> {
-    let candidates = candidates_of(alloc, problem, crossings, unwritten, places)?;
-    let mut updates = bounded_updates(alloc, problem.updates().len(), upper_bound)?;
+    let mut updates = first_updates(alloc, problem.updates().len(), relevant, upper_bound)?;
+    let candidates = candidates_of(alloc, problem, crossings, unwritten, places, &updates)?;
     let chains = problem.chains();
     let lanes = draw_lanes(
         alloc,
@@ -406,10 +441,10 @@ fn choose_at(
     inside: &[bool],
     crossings: Vec<Crossing>,
     unwritten: &[bool],
-    upper_bound: usize,
+    limits: (&[u32], usize),
 ) -> Result<Choice, AllocError> {
     let places = Places::new(alloc, inside, problem.must())?;
-    let (lanes, updates) = draw(alloc, problem, &crossings, unwritten, &places, upper_bound)?;
+    let (lanes, updates) = draw(alloc, problem, &crossings, unwritten, &places, limits)?;
     let deciding = deciding(alloc, problem, &crossings, &lanes, &places)?;
     let (before, after) = sides_of(alloc, &updates, inside)?;
     Ok(Choice {
@@ -422,16 +457,19 @@ fn choose_at(
     })
 }
 
-/// Returns the lanes and the updates to draw of a problem with this set: of few updates all, else at most `upper_bound`,
-/// those that bound the versions that are drawn. Items that were never written have no lane if `unwritten` says so.
+/// Returns the lanes and the updates to draw of a problem with this set: of few updates all, else at most `upper_bound`, the
+/// first relevant ones and those that bound the versions that are drawn. Items that were never written have no lane if
+/// `unwritten` says so.
 pub fn choose(
     alloc: Global,
     problem: &Problem,
     set: &[u32],
     unwritten: &[bool],
+    relevant: &[u32],
     upper_bound: usize,
 ) -> Result<Choice, AllocError> {
     let inside = marks_of(alloc, problem.updates().len(), set)?;
     let crossings = crossings(alloc, problem.chains(), &inside)?;
-    choose_at(alloc, problem, &inside, crossings, unwritten, upper_bound)
+    let limits = (relevant, upper_bound);
+    choose_at(alloc, problem, &inside, crossings, unwritten, limits)
 }

@@ -3,7 +3,7 @@
 use crate::elements::{push_horizontal, push_straight, push_text, push_vertical};
 use crate::lanes::push_bar;
 use crate::layout::{LEGEND_ROW_HEIGHT, Layout, MARGIN};
-use crate::scene::{Lane, LanePart, Scene, have_transient_read};
+use crate::scene::{Lane, LanePart, LaneSegment, Scene, have_transient_read};
 use std::alloc::AllocError;
 
 /// A symbol that the legend of a picture explains.
@@ -12,6 +12,10 @@ enum Key {
     Read,
     Other,
     Several,
+    Change,
+    Write,
+    Writes,
+    Off,
     TransientRead,
     Before,
     After,
@@ -26,14 +30,18 @@ fn keys() -> &'static [Key] {
 }
 
 /// The keys, in the order in which they are drawn.
-static KEYS: [Key; 10] = [
+static KEYS: [Key; 14] = [
     Key::Read,
     Key::Other,
     Key::Several,
+    Key::Change,
     Key::Nearest,
+    Key::Off,
     Key::Share,
     Key::Before,
     Key::After,
+    Key::Writes,
+    Key::Write,
     Key::First,
     Key::TransientRead,
     Key::Must,
@@ -48,6 +56,10 @@ fn words_of(key: Key) -> &'static str {
         Key::Read => "value that it read",
         Key::Other => "other value",
         Key::Several => "several values",
+        Key::Change => "the value changes",
+        Key::Write => "write by the box above",
+        Key::Writes => "down to what it wrote",
+        Key::Off => "off at the line",
         Key::TransientRead => "read, but did not last",
         Key::Before => "update before the line",
         Key::After => "update after the line",
@@ -77,12 +89,35 @@ fn has_part(lane: &Lane<'_>, key: Key) -> bool {
     false
 }
 
+/// Returns whether a stretch begins at a box.
+fn is_written(segment: &LaneSegment) -> bool {
+    segment.from > 0
+}
+
+/// Returns whether a lane has the write of an update that is drawn.
+fn has_write(lane: &Lane<'_>) -> bool {
+    lane.segments.iter().any(is_written)
+}
+
+/// Returns whether a stretch has a gap between two parts.
+fn has_gap(segment: &LaneSegment) -> bool {
+    segment.parts.len() > 1
+}
+
+/// Returns whether a lane has a gap, which is where its value changes.
+fn has_change(lane: &Lane<'_>) -> bool {
+    lane.segments.len() > 1 || lane.segments.iter().any(has_gap)
+}
+
 /// Returns whether the picture has what a key means.
 fn occurs(scene: &Scene<'_>, key: Key) -> bool {
     match key {
         Key::Read | Key::Other | Key::Several => {
             scene.lanes.iter().any(|lane| has_part(lane, key))
         }
+        Key::Change => scene.lanes.iter().any(has_change),
+        Key::Write => scene.lanes.iter().any(has_write),
+        Key::Writes => scene.updates.iter().any(|update| update.reach > 0),
         Key::TransientRead => have_transient_read(&scene.lanes),
         Key::Before => scene
             .updates
@@ -95,7 +130,7 @@ fn occurs(scene: &Scene<'_>, key: Key) -> bool {
         Key::Must => scene.updates.iter().any(|update| update.must),
         Key::First => !scene.arrows.is_empty(),
         Key::Nearest => !scene.lanes.is_empty(),
-        Key::Share => scene.lanes.iter().any(|lane| lane.difference > 0),
+        Key::Off | Key::Share => scene.lanes.iter().any(|lane| lane.difference > 0),
     }
 }
 
@@ -140,6 +175,26 @@ fn push_share(out: &mut String, x: u32, y: u32) -> Result<(), AllocError> {
     out.push_str("</rect>")
 }
 
+/// Appends two pieces of a lane with a gap between them.
+fn push_change(out: &mut String, x: u32, y: u32) -> Result<(), AllocError> {
+    push_horizontal(out, "u", y, x, x.saturating_add(9))?;
+    push_horizontal(out, "v", y, x.saturating_add(17), x.saturating_add(26))
+}
+
+/// Appends a line from above to below.
+fn push_across(out: &mut String, class: &str, x: u32, y: u32) -> Result<(), AllocError> {
+    let middle = x.saturating_add(13);
+    push_vertical(out, class, middle, y.saturating_sub(9), y.saturating_add(9))
+}
+
+/// Appends the line across a lane that is off, with its circle.
+fn push_off(out: &mut String, x: u32, y: u32) -> Result<(), AllocError> {
+    push_horizontal(out, "v", y, x, x.saturating_add(26))?;
+    push_across(out, "l", x, y)?;
+    let middle = x.saturating_add(13);
+    write!(out, "<circle class='c' cx='{middle}' cy='{y}' r='5'/>")
+}
+
 /// Appends the sign of a key.
 fn push_sign(
     out: &mut String,
@@ -154,6 +209,10 @@ fn push_sign(
         Key::Read => push_horizontal(out, "u", middle, x, right),
         Key::Other => push_horizontal(out, "v", middle, x, right),
         Key::Several => push_horizontal(out, "v s", middle, x, right),
+        Key::Change => push_change(out, x, middle),
+        Key::Write => push_across(out, "t", x, middle),
+        Key::Writes => push_across(out, "d", x, middle),
+        Key::Off => push_off(out, x, middle),
         Key::TransientRead => push_horizontal(out, "u s", middle, x, right),
         Key::Before => push_box(out, "b", x, y),
         Key::After => push_box(out, "a", x, y),

@@ -166,13 +166,12 @@ fn push_deciding(
     if deciding.count == 0 {
         return Ok(());
     }
-    let mut words = String::new(alloc);
+    let mut words = String::from_str(
+        alloc,
+        "At another place of the line these lanes would be less far off, but ",
+    )?;
     push_names(&mut words, deciding)?;
-    words.push_str(if deciding.count == 1 {
-        " keeps the line from a position at which these lanes would be less far off."
-    } else {
-        " keep the line from a position at which these lanes would be less far off."
-    })?;
+    words.push_str(" would be farther off.")?;
     sentences.push(words)?;
     Ok(())
 }

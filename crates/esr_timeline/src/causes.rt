@@ -10,9 +10,9 @@ use crate::predecessors::ChargedPredecessors;
 use crate::source::Source;
 use esr_chart::{Arrow, Relation};
 use esr_history::{Event, TxnId};
-use esr_items::{ItemId, Metric};
+use esr_items::ItemId;
 use esr_outcomes::QueryAudit;
-use esr_trace::{ObservedRead, QueryTrace};
+use esr_trace::{ObservedRead, Placement, QueryTrace};
 use std::alloc::{AllocError, Global};
 
 /// The distances of the reads of a query that are off, by what explains them. All are 0 if the query is not off.
@@ -23,12 +23,10 @@ pub struct Causes {
     /// For each update by its number: the distance of the reads of values that were written by it, or by updates that
     /// follow it, and that are not before the placement.
     by_writer: Vec<u64>,
-    /// For each update by its number: whether it is before the placement.
-    is_before: Vec<bool>,
+    /// The nearest placement.
+    placement: Placement,
     /// The charged updates that the updates that are not before the placement follow.
     predecessors: ChargedPredecessors,
-    /// The value of each item in the nearest placement.
-    nearest: Vec<i64>,
 }
 
 /// Returns the element at an index, or 0.
@@ -43,41 +41,20 @@ fn add(values: &mut [u64], index: u32, value: u64) {
     }
 }
 
-/// Returns the numbers of the updates before the placement as flags.
-fn flags_of(alloc: Global, before: &[TxnId], count: usize) -> Result<Vec<bool>, AllocError> {
-    let mut flags = vec![in alloc; false; count]?;
-    for update in before {
-        if let Some(flag) = flags.get_mut(update.0 as usize) {
-            *flag = true;
-        }
-    }
-    Ok(flags)
-}
-
-/// Returns the distance of one read of a value from the value in the nearest placement.
-fn distance_of(source: Source<'_>, nearest: &[i64], observed: &ObservedRead) -> u64 {
-    let Some(there) = nearest.get(observed.item.0 as usize) else {
-        return 0;
-    };
-    let weight = source.history.metric().distance(observed.item, 0, 1);
-    observed.value.abs_diff(*there).saturating_mul(weight)
-}
-
 impl Causes {
     /// Returns the causes of a query that is not off.
     pub fn none(alloc: Global) -> Causes {
         Causes {
             by_item: Vec::new(alloc),
             by_writer: Vec::new(alloc),
-            is_before: Vec::new(alloc),
+            placement: Placement::none(alloc),
             predecessors: ChargedPredecessors::none(alloc),
-            nearest: Vec::new(alloc),
         }
     }
 
     /// Returns whether an update is before the placement.
     fn has_before(&self, update: TxnId) -> bool {
-        self.is_before.get(update.0 as usize) == Some(&true)
+        self.placement.has_before(update)
     }
 
     /// Returns the update whose charges explain a read that was too late, or nothing if it was too early.
@@ -85,6 +62,15 @@ impl Causes {
         match observed.writer {
             Some(writer) if !self.has_before(writer) => Some(self.predecessors.at(writer)),
             _ => None,
+        }
+    }
+
+    /// Returns the update whose charges explain why this one is not before the placement, or nothing if it is before it.
+    pub fn cause_of(&self, update: TxnId) -> Option<TxnId> {
+        if self.has_before(update) {
+            None
+        } else {
+            Some(self.predecessors.at(update))
         }
     }
 
@@ -99,7 +85,7 @@ impl Causes {
     /// Notes the reads that are off.
     fn note_all(&mut self, source: Source<'_>, observed_reads: &[ObservedRead]) {
         for observed in observed_reads {
-            let distance = distance_of(source, &self.nearest, observed);
+            let distance = self.placement.distance(source.history, observed);
             if distance > 0 {
                 self.note(observed, distance.saturating_mul(observed.count));
             }
@@ -116,11 +102,10 @@ impl Causes {
         trace: &QueryTrace,
     ) -> Result<(), AllocError> {
         let count = source.history.begun_count().saturating_add(1);
-        self.nearest = source.auditor.values_after(alloc, &audit.before)?;
+        self.placement = Placement::after(alloc, source.history, &audit.before)?;
         self.by_item = vec![in alloc; 0u64; source.history.items() as usize]?;
         self.by_writer = vec![in alloc; 0u64; count]?;
-        self.is_before = flags_of(alloc, &audit.before, count)?;
-        self.predecessors = ChargedPredecessors::of(alloc, source, query, trace, &self.is_before)?;
+        self.predecessors = ChargedPredecessors::of(alloc, source, query, trace, &self.placement)?;
         self.note_all(source, &trace.observed_reads);
         Ok(())
     }
@@ -153,27 +138,14 @@ impl Causes {
         }
     }
 
-    /// Returns the writers of the values of the farthest reads that were too late, at most `upper_bound` reads.
-    pub fn late_writers(
+    /// Returns the cause of each read that is off, those of the farthest reads first.
+    pub fn of_reads(
         &self,
         alloc: Global,
         source: Source<'_>,
         trace: &QueryTrace,
-        upper_bound: usize,
     ) -> Result<Vec<TxnId>, AllocError> {
-        let mut ranks = Vec::new(alloc);
-        for observed in &trace.observed_reads {
-            let distance = distance_of(source, &self.nearest, observed);
-            if let Some(writer) = observed.writer
-                && distance > 0
-                && !self.has_before(writer)
-            {
-                ranks.push((u64::MAX.saturating_sub(distance), observed.place, writer.0))?;
-            }
-        }
-        ranks.sort_unstable();
-        ranks.truncate(upper_bound);
-        ranks.iter().map(|rank| TxnId(rank.2)).collect(alloc)
+        self.placement.causes(alloc, source.history, trace)
     }
 
     /// Returns whether an event of an update before the placement writes the value that the item has there.
@@ -181,7 +153,7 @@ impl Causes {
         let Event::Write { item, value, .. } = event else {
             return false;
         };
-        self.has_before(update) && self.nearest.get(item.0 as usize) == Some(&value)
+        self.has_before(update) && self.placement.value(item.0) == Some(value)
     }
 
     /// Returns the distance of the reads that a charge explains, or 0.
@@ -220,7 +192,7 @@ impl Causes {
         let mut farthest = None;
         let mut greatest = 0u64;
         for observed in &trace.observed_reads {
-            let distance = distance_of(source, &self.nearest, observed);
+            let distance = self.placement.distance(source.history, observed);
             if distance > greatest {
                 greatest = distance;
                 farthest = Some(*observed);

@@ -8,10 +8,12 @@ use crate::charges::{
     ChargedQueries, between, charges_to, drawable, greatest, sum_of, with_exports,
 };
 use crate::farthest::farthest_read;
-use crate::lanes::{
-    MAX_LANES, MAX_LATE_READS, concerned, farthest, first_begun, lanes_of, nearest_to,
+use crate::lanes::{MAX_LANES, concerned, farthest, first_begun, lane_at, lanes_of, nearest_to};
+use crate::marks::{
+    count_off_reads, keys_of, mark_keys, mark_query_reads, marks_of, marks_on, mistakes_on,
+    omit_notes,
 };
-use crate::marks::{count_off_reads, keys_of, mark_keys, mark_query_reads, marks_of, marks_on};
+use crate::notes::complete_notes;
 use crate::source::Source;
 use esr_chart::{
     Arrow, Drawn, Farthest, Format, Heads, Lane, Layout, Mark, Nearest, Order, Rest, Scene,
@@ -287,9 +289,9 @@ struct Material<'a> {
     lanes: Vec<Lane<'a>>,
     marks: Vec<Mark<'a>>,
     charges: Vec<Arrow<'a>>,
-    /// The writers of the farthest reads that were too late.
-    late_writers: Vec<TxnId>,
-    /// The nearest placement of the query, or of the farthest one, if that is off.
+    /// The cause of each read that is off, those of the farthest reads first.
+    causes: Vec<TxnId>,
+    /// The nearest placement of the query, or of the farthest one.
     nearest: Option<Nearest<'a>>,
     /// The farthest read of that query, if that is off.
     farthest: Option<Farthest<'a>>,
@@ -363,9 +365,9 @@ fn has_blocked(detail: Detail) -> bool {
 }
 
 impl<'a> Material<'a> {
-    /// Returns the query and the writers of this number of its farthest reads that were too late.
-    fn query_and_writers(&self, alloc: Global, reads: usize) -> Result<Vec<TxnId>, AllocError> {
-        let mut txns = first(&self.late_writers, reads).to_vec(alloc)?;
+    /// Returns the query and the causes of this number of its farthest reads.
+    fn query_and_causes(&self, alloc: Global, reads: usize) -> Result<Vec<TxnId>, AllocError> {
+        let mut txns = first(&self.causes, reads).to_vec(alloc)?;
         if let Some(query) = self.query {
             txns.push(query)?;
         }
@@ -393,7 +395,7 @@ impl<'a> Material<'a> {
     ) -> Result<Vec<Lane<'a>>, AllocError> {
         match detail {
             Detail::Greatest(_) => {
-                let txns = self.query_and_writers(alloc, max_off_reads(detail))?;
+                let txns = self.query_and_causes(alloc, max_off_reads(detail))?;
                 lanes_in(alloc, &self.lanes, arrows, &txns)
             }
             Detail::First(count) => lanes_of_marks(alloc, &self.lanes, first(&self.marks, count)),
@@ -449,6 +451,7 @@ impl<'a> Material<'a> {
     ) -> Result<(), AllocError> {
         let all = self.marks(alloc, detail, &choice.lanes, &choice.arrows)?;
         choice.marks = drawn_marks(alloc, &all, detail)?;
+        omit_notes(&mut choice.marks);
         choice.hidden = all.len().saturating_sub(choice.marks.len());
         choice.hidden_off = count_off_reads(&all).saturating_sub(count_off_reads(&choice.marks));
         choice.arrows = shown(alloc, &choice.arrows, &choice.marks)?;
@@ -501,6 +504,7 @@ impl<'a> Material<'a> {
     /// Returns the scene of a choice.
     fn scene(&self, choice: Choice<'a>, all_charges: Vec<Arrow<'a>>) -> Scene<'a> {
         let rest = self.rest(&choice);
+        let mistakes = mistakes_on(self.source, &choice.lanes);
         let Choice { lanes, arrows, .. } = choice;
         Scene {
             query: self.query_name(),
@@ -509,6 +513,7 @@ impl<'a> Material<'a> {
             all_charges,
             order: self.order(),
             rest,
+            mistakes,
             nearest: self.nearest,
             farthest: self.farthest,
         }
@@ -639,7 +644,7 @@ fn material_on<'a>(
         lanes,
         marks,
         charges,
-        late_writers: Vec::new(alloc),
+        causes: Vec::new(alloc),
         nearest: None,
         farthest: None,
     })
@@ -651,10 +656,10 @@ fn lanes_about<'a>(
     source: Source<'a>,
     query: TxnId,
     trace: &QueryTrace,
-    late_writers: &[TxnId],
+    read_causes: &[TxnId],
     charges: &[Arrow<'a>],
 ) -> Result<Vec<Lane<'a>>, AllocError> {
-    let chosen = concerned(alloc, source, query, trace, late_writers, charges)?;
+    let chosen = concerned(alloc, source, query, trace, read_causes, charges)?;
     lanes_of(alloc, source, &chosen)
 }
 
@@ -668,13 +673,16 @@ fn material_about<'a>(
     causes: &Causes,
 ) -> Result<Material<'a>, AllocError> {
     let all = charges_to(alloc, source, causes, own, ChargedQueries::One(query))?;
-    let writers = causes.late_writers(alloc, source, trace, MAX_LATE_READS)?;
-    let lanes = lanes_about(alloc, source, query, trace, &writers, &all)?;
+    let of_reads = causes.of_reads(alloc, source, trace)?;
+    let lanes = lanes_about(alloc, source, query, trace, &of_reads, &all)?;
     let charges = between(alloc, &all, own, &lanes)?;
     let farthest = farthest_read(alloc, source, query, causes, trace, &all)?;
     let nearest = nearest_to(alloc, source, query)?;
     let mut material = material_on(alloc, source, Some(query), lanes, charges)?;
-    material.late_writers = writers;
+    if let Some(lane) = lane_at(&material.lanes, query) {
+        complete_notes(source, causes, &mut material.marks, lane);
+    }
+    material.causes = of_reads;
     material.farthest = farthest;
     material.nearest = nearest;
     Ok(material)

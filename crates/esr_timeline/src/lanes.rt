@@ -7,14 +7,14 @@ use esr_history::{Entry, Event, Refusal, Reply, TxnId};
 use esr_outcomes::{Auditor, TxnKind, kind_at, kinds_of, outcome_of};
 use esr_report::name_of_transaction;
 use esr_text::first;
-use esr_trace::QueryTrace;
+use esr_trace::{Placement, QueryTrace, relevant_updates};
 use std::alloc::{AllocError, Global};
 
 /// The maximum number of lanes.
 pub const MAX_LANES: usize = 12;
 
-/// The maximum number of reads that were too late whose writers have lanes in any case.
-pub const MAX_LATE_READS: usize = 3;
+/// The maximum number of reads that are off whose causes have lanes before all other updates.
+const MAX_CAUSES: usize = 6;
 
 /// With at most this many lanes, the writers of the values that were read have lanes too.
 const FEW_LANES: usize = 6;
@@ -90,53 +90,39 @@ fn push_writers(chosen: &mut Vec<TxnId>, trace: &QueryTrace) -> Result<(), Alloc
     Ok(())
 }
 
-/// Adds the updates that were charged most.
-fn push_charged(
-    alloc: Global,
-    chosen: &mut Vec<TxnId>,
-    trace: &QueryTrace,
-) -> Result<(), AllocError> {
-    let sums = trace.sums_by_update(alloc)?;
-    for sum in first(&sums, MAX_LANES) {
-        push_new(chosen, TxnId(sum.number), MAX_LANES)?;
-    }
-    Ok(())
-}
-
-/// Adds the updates whose charges explain the reads that are off, the greatest distance first.
-fn push_causes(
-    alloc: Global,
-    chosen: &mut Vec<TxnId>,
-    arrows: &[Arrow<'_>],
-) -> Result<(), AllocError> {
+/// Returns the updates whose charges explain the reads that are off, the greatest distance first.
+fn explaining(alloc: Global, arrows: &[Arrow<'_>]) -> Result<Vec<TxnId>, AllocError> {
+    let mut updates = Vec::new(alloc);
     for index in &ranking(alloc, arrows)? {
         if let Some(arrow) = arrows.get(*index)
             && arrow.explained > 0
         {
-            push_new(chosen, arrow.update, MAX_LANES)?;
+            push_new(&mut updates, arrow.update, MAX_LANES)?;
         }
     }
-    Ok(())
+    Ok(updates)
 }
 
-/// Returns the query and the transactions that concern it, in the order of their begins: the writers of the farthest reads
-/// that were too late, the updates whose charges explain the reads that are off, the other updates that it was charged by,
-/// the transactions that blocked it or that it blocked, and the writers of the values that it read.
+/// Returns the query and the transactions that concern it, in the order of their begins: the causes of the reads that are
+/// off, the updates whose charges explain them, the other updates that it was charged by, the transactions that blocked it
+/// or that it blocked, and the writers of the values that it read.
 pub fn concerned(
     alloc: Global,
     source: Source<'_>,
     query: TxnId,
     trace: &QueryTrace,
-    late_writers: &[TxnId],
+    causes: &[TxnId],
     arrows: &[Arrow<'_>],
 ) -> Result<Vec<TxnId>, AllocError> {
-    let mut chosen = Vec::new(alloc);
+    let explaining = explaining(alloc, arrows)?;
+    let mut chosen = relevant_updates(
+        alloc,
+        trace,
+        first(causes, MAX_CAUSES),
+        &explaining,
+        MAX_LANES - 1,
+    )?;
     chosen.push(query)?;
-    for writer in late_writers {
-        push_new(&mut chosen, *writer, MAX_LANES)?;
-    }
-    push_causes(alloc, &mut chosen, arrows)?;
-    push_charged(alloc, &mut chosen, trace)?;
     push_opponents(&mut chosen, source, query)?;
     push_writers(&mut chosen, trace)?;
     sorted(alloc, &chosen)
@@ -185,15 +171,33 @@ pub fn farthest(alloc: Global, auditor: &Auditor<'_>) -> Result<Option<TxnId>, A
     Ok(best)
 }
 
-/// Returns the values of the items in the nearest placement of a query that is off, or nothing for other lanes.
-fn nearest_of(alloc: Global, source: Source<'_>, lane: &Lane<'_>) -> Result<Vec<i64>, AllocError> {
-    if lane.distance.unwrap_or(0) == 0 {
-        return Ok(Vec::new(alloc));
+/// Returns the nearest placement of a committed query, or one without items for other lanes.
+fn placement_of(
+    alloc: Global,
+    source: Source<'_>,
+    lane: &Lane<'_>,
+) -> Result<Placement, AllocError> {
+    if lane.distance.is_none() {
+        return Ok(Placement::none(alloc));
     }
     match source.auditor.summary(alloc, lane.txn)? {
-        Some(audit) => source.auditor.values_after(alloc, &audit.before),
-        None => Ok(Vec::new(alloc)),
+        Some(audit) => Placement::after(alloc, source.history, &audit.before),
+        None => Ok(Placement::none(alloc)),
     }
+}
+
+/// Returns the number of updates that committed before a query did.
+fn count_committed(source: Source<'_>, query: TxnId) -> u64 {
+    let mut count = 0u64;
+    for txn in source.auditor.commits() {
+        if *txn == query {
+            return count;
+        }
+        if !source.history.facts(*txn).is_some_and(|facts| facts.query) {
+            count = count.saturating_add(1);
+        }
+    }
+    count
 }
 
 /// Returns the one of some updates that committed last, with the index of the entry.
@@ -209,35 +213,37 @@ fn last_of(source: Source<'_>, updates: &[TxnId]) -> Option<(TxnId, usize)> {
     last
 }
 
-/// Returns the nearest placement of a query, if it has committed and is off.
+/// Returns the nearest placement of a query, if it has committed.
 pub fn nearest_to<'a>(
     alloc: Global,
     source: Source<'a>,
     query: TxnId,
 ) -> Result<Option<Nearest<'a>>, AllocError> {
     match source.auditor.summary(alloc, query)? {
-        Some(audit) if audit.distance > 0 => {
+        Some(audit) => {
             let last = last_of(source, &audit.before);
             Ok(Some(Nearest {
                 query: name_of_transaction(source.transactions, query),
+                is_exact: audit.distance == 0,
                 updates: audit.before.len() as u64,
+                committed: count_committed(source, query),
                 last: last.map_or("", |(txn, _)| name_of_transaction(source.transactions, txn)),
                 step: last.map_or(0, |(_, place)| (place as u64).saturating_add(1)),
             }))
         }
-        _ => Ok(None),
+        None => Ok(None),
     }
 }
 
-/// Returns for each lane the values of the items in the nearest placement of its query, if that is off.
-pub fn all_nearest(
+/// Returns for each lane the nearest placement of its query.
+pub fn placements_of(
     alloc: Global,
     source: Source<'_>,
     lanes: &[Lane<'_>],
-) -> Result<Vec<Vec<i64>>, AllocError> {
+) -> Result<Vec<Placement>, AllocError> {
     let mut all = Vec::new(alloc);
     for lane in lanes {
-        all.push(nearest_of(alloc, source, lane)?)?;
+        all.push(placement_of(alloc, source, lane)?)?;
     }
     Ok(all)
 }

@@ -17,6 +17,7 @@ mod farthest;
 mod fit;
 mod lanes;
 mod marks;
+mod notes;
 mod predecessors;
 mod sentences;
 mod source;

@@ -1,11 +1,13 @@
 //! The marks on lanes: one pass over the log. An event that was blocked and tried again at once has one mark.
 
-use crate::lanes::{all_nearest, blocker_of, lane_at, txn_of};
+use crate::lanes::{blocker_of, lane_at, placements_of, txn_of};
+use crate::notes::note_of;
 use crate::source::Source;
-use esr_chart::{Action, Arrow, Cause, Lane, Mark};
+use esr_chart::{Action, Arrow, Cause, Lane, Mark, Mistakes, Note};
 use esr_history::{Entry, Event, Refusal, Reply, TxnId};
 use esr_items::{ItemId, Metric};
 use esr_report::name_of_transaction;
+use esr_trace::Placement;
 use std::alloc::{AllocError, Global};
 
 /// Returns the line of an entry, or 0 if it is not known.
@@ -85,31 +87,23 @@ fn blocker_name<'a>(source: Source<'a>, reply: Reply) -> &'a str {
     }
 }
 
-/// Returns the action with the value in the nearest placement, if it is a read that is off.
-fn compared(action: Action, nearest: &[Vec<i64>], lane: usize, event: Event) -> Action {
-    let Action::Read { value, .. } = action else {
-        return action;
-    };
-    let there = item_of(event)
-        .and_then(|item| nearest.get(lane)?.get(item.0 as usize).copied())
-        .filter(|there| *there != value);
+/// Returns the action of a read with the value in the nearest placement, if that is another one.
+fn compared(value: i64, placement: &Placement, item: ItemId) -> Action {
     Action::Read {
         value,
-        nearest: there,
+        nearest: placement.value(item.0).filter(|there| *there != value),
     }
 }
 
-/// Returns the mark of an entry, if its transaction has a lane.
-fn mark_of<'a>(
+/// Returns the mark of an entry with this action on a lane.
+fn mark_with<'a>(
     source: Source<'a>,
-    lanes: &[Lane<'a>],
-    nearest: &[Vec<i64>],
+    lane: usize,
     place: usize,
     entry: Entry,
-) -> Option<Mark<'a>> {
-    let lane = lane_at(lanes, txn_in(entry)?)?;
-    let action = compared(action_of(entry)?, nearest, lane, entry.event);
-    Some(Mark {
+    action: Action,
+) -> Mark<'a> {
+    Mark {
         lane,
         place,
         line: line_at(source, place),
@@ -118,7 +112,77 @@ fn mark_of<'a>(
         weight: item_weight(source, entry.event),
         blocker: blocker_name(source, entry.reply),
         is_key: false,
-    })
+        note: None,
+        has_note: false,
+    }
+}
+
+/// Compares the mark of a read of a query with this nearest placement, and adds a note if its value needs one.
+fn compare<'a>(source: Source<'a>, placement: &Placement, mark: &mut Mark<'a>, event: Event) {
+    let Action::Read { value, .. } = mark.action else {
+        return;
+    };
+    let Some(item) = item_of(event) else {
+        return;
+    };
+    if placement.value(item.0).is_none() {
+        return;
+    }
+    mark.action = compared(value, placement, item);
+    let is_off = placement.value(item.0) != Some(value);
+    mark.note = note_of(source, placement, mark.place, item, is_off);
+    mark.has_note = mark.note.is_some();
+}
+
+/// Returns the mark of an entry, if its transaction has a lane.
+fn mark_of<'a>(
+    source: Source<'a>,
+    lanes: &[Lane<'a>],
+    placements: &[Placement],
+    place: usize,
+    entry: Entry,
+) -> Option<Mark<'a>> {
+    let lane = lane_at(lanes, txn_in(entry)?)?;
+    let mut mark = mark_with(source, lane, place, entry, action_of(entry)?);
+    if let Some(placement) = placements.get(lane) {
+        compare(source, placement, &mut mark, entry.event);
+    }
+    Some(mark)
+}
+
+/// Returns whether an entry was refused for a mistake, and its transaction has a lane or is not known.
+fn is_mistake(lanes: &[Lane<'_>], entry: Entry) -> bool {
+    if !entry.is_refused() || cause_of(entry.reply).is_some() {
+        return false;
+    }
+    match txn_in(entry) {
+        Some(txn) => lane_at(lanes, txn).is_some(),
+        None => true,
+    }
+}
+
+/// Returns the entries of some lanes that were refused for a mistake.
+pub fn mistakes_on(source: Source<'_>, lanes: &[Lane<'_>]) -> Mistakes {
+    let mut mistakes = Mistakes {
+        count: 0,
+        first: 0,
+        second: 0,
+    };
+    let log = source.history.log();
+    for place in 0..log.len() {
+        if let Some(entry) = log.get(place)
+            && is_mistake(lanes, entry)
+        {
+            let step = (place as u64).saturating_add(1);
+            mistakes.count = mistakes.count.saturating_add(1);
+            match mistakes.count {
+                1 => mistakes.first = step,
+                2 => mistakes.second = step,
+                _ => {}
+            }
+        }
+    }
+    mistakes
 }
 
 /// Returns whether a mark is of the same event as the last one of its lane, which was blocked too.
@@ -185,12 +249,12 @@ fn push_marks<'a>(
     all: &mut Marks<'a>,
     source: Source<'a>,
     lanes: &[Lane<'a>],
-    nearest: &[Vec<i64>],
+    placements: &[Placement],
 ) -> Result<(), AllocError> {
     let log = source.history.log();
     for place in 0..log.len() {
         if let Some(entry) = log.get(place)
-            && let Some(mark) = mark_of(source, lanes, nearest, place, entry)
+            && let Some(mark) = mark_of(source, lanes, placements, place, entry)
         {
             all.push(mark)?;
         }
@@ -204,12 +268,12 @@ pub fn marks_of<'a>(
     source: Source<'a>,
     lanes: &[Lane<'a>],
 ) -> Result<Vec<Mark<'a>>, AllocError> {
-    let nearest = all_nearest(alloc, source, lanes)?;
+    let placements = placements_of(alloc, source, lanes)?;
     let mut all = Marks {
         marks: Vec::new(alloc),
         last: vec![in alloc; None; lanes.len()]?,
     };
-    push_marks(&mut all, source, lanes, &nearest)?;
+    push_marks(&mut all, source, lanes, &placements)?;
     let Marks { marks, .. } = all;
     Ok(marks)
 }
@@ -284,27 +348,12 @@ fn mark_blocked(marks: &mut [Mark<'_>], has_blocked: bool) {
     }
 }
 
-/// Returns the index of the last write of an item before an entry, if it wrote this value.
-fn write_before(marks: &[Mark<'_>], item: &str, place: usize, value: i64) -> Option<usize> {
-    let mut found = None;
-    for (index, mark) in marks.iter().enumerate() {
-        if mark.place < place
-            && mark.item == item
-            && let Action::Write { value: written } = mark.action
-        {
-            found = (written == value).then_some(index);
-        }
-    }
-    found
-}
-
-/// Returns the write of the value of a read that is off.
+/// Returns the index of the write that explains a read, if it is on a lane.
 fn write_of(marks: &[Mark<'_>], read: &Mark<'_>) -> Option<usize> {
-    match read.action {
-        Action::Read {
-            value,
-            nearest: Some(_),
-        } => write_before(marks, read.item, read.place, value),
+    match read.note {
+        Some(Note::Wrote { place, .. }) => marks
+            .binary_search_by_key(&place, |mark| mark.place)
+            .ok(),
         _ => None,
     }
 }
@@ -345,9 +394,8 @@ fn farthest_reads(
     ranks.iter().map(|rank| rank.1).collect(alloc)
 }
 
-/// Marks the reads that are off, those with the greatest distances first, at most `upper_bound`, and the writes of their
-/// values on lanes that are drawn. A value can be that of an update that committed before the query began, so that no charge
-/// explains it.
+/// Marks the reads that are off, those with the greatest distances first, at most `upper_bound`, and the writes that explain
+/// them on lanes that are drawn. A charge does not always do: the update may have committed before the query began.
 fn mark_off_reads(
     alloc: Global,
     marks: &mut [Mark<'_>],
@@ -412,6 +460,24 @@ pub fn mark_keys(
 /// Returns whether a mark bounds its lane.
 pub fn is_bound(action: Action) -> bool {
     matches!(action, Action::Begin | Action::Commit | Action::Abort)
+}
+
+/// Returns whether the note of a mark is of a write among these marks.
+fn is_explained(marks: &[Mark<'_>], index: usize) -> bool {
+    marks
+        .get(index)
+        .and_then(|mark| write_of(marks, mark))
+        .is_some()
+}
+
+/// Omits the notes of writes that are among these marks.
+pub fn omit_notes(marks: &mut [Mark<'_>]) {
+    for index in 0..marks.len() {
+        let is_explained = is_explained(marks, index);
+        if let Some(mark) = marks.get_mut(index) {
+            mark.has_note = mark.note.is_some() && !is_explained;
+        }
+    }
 }
 
 /// Returns the marks that charges depend on, and those that bound lanes.

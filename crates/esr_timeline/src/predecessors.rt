@@ -8,7 +8,7 @@
 use crate::source::Source;
 use esr_history::TxnId;
 use esr_order::{Access, accesses_of};
-use esr_trace::QueryTrace;
+use esr_trace::{Placement, QueryTrace};
 use std::alloc::{AllocError, Global};
 
 /// The charged updates that the updates of a history are or follow. 0 is the number of none.
@@ -127,42 +127,42 @@ impl ChargedPredecessors {
         Ok(())
     }
 
-    /// Notes the updates that committed before a query. Those with a flag are before the placement.
+    /// Notes the updates that committed before a query.
     fn note_commits(
         &mut self,
         alloc: Global,
         source: Source<'_>,
         query: TxnId,
-        is_before: &[bool],
+        placement: &Placement,
     ) -> Result<(), AllocError> {
         for txn in source.auditor.commits() {
             if *txn == query {
                 return Ok(());
             }
             if !is_query(source, *txn) {
-                let flag = is_before.get(txn.0 as usize) == Some(&true);
-                self.note_commit(alloc, source, *txn, flag)?;
+                self.note_commit(alloc, source, *txn, placement.has_before(*txn))?;
             }
         }
         Ok(())
     }
 
-    /// Returns the predecessors of the updates that committed before a query. Those with a flag are before the placement.
+    /// Returns the predecessors of the updates that committed before a query with this nearest placement.
     pub fn of(
         alloc: Global,
         source: Source<'_>,
         query: TxnId,
         trace: &QueryTrace,
-        is_before: &[bool],
+        placement: &Placement,
     ) -> Result<ChargedPredecessors, AllocError> {
         let items = source.history.items() as usize;
+        let numbers = source.history.begun_count().saturating_add(1);
         let mut predecessors = ChargedPredecessors {
-            charged: charges_of(alloc, trace, is_before.len())?,
-            updates: vec![in alloc; 0u32; is_before.len()]?,
+            charged: charges_of(alloc, trace, numbers)?,
+            updates: vec![in alloc; 0u32; numbers]?,
             writers: vec![in alloc; 0u32; items]?,
             readers: vec![in alloc; 0u32; items]?,
         };
-        predecessors.note_commits(alloc, source, query, is_before)?;
+        predecessors.note_commits(alloc, source, query, placement)?;
         Ok(predecessors)
     }
 

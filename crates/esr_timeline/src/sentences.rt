@@ -1,9 +1,10 @@
-//! The lines above the lanes: the heading, the lines with errors, the nearest placement, the farthest read, what is not drawn,
-//! and the weights.
+//! The lines above the lanes: the heading, the lines with errors, the nearest placement, the farthest read, the steps that
+//! were refused, what is not drawn, and the weights.
 
 use crate::fit::Picture;
 use esr_chart::{
-    Arrow, Band, Farthest, MARGIN, Nearest, Order, Reason, Rest, Scene, push_heading_words,
+    Arrow, Band, Farthest, MARGIN, Mistakes, Nearest, Order, Reason, Rest, Scene,
+    push_heading_words,
 };
 use esr_text::{first, push_count, push_number, wrap};
 use std::alloc::{AllocError, Global};
@@ -30,32 +31,84 @@ fn push_off_reads(out: &mut String, reads: u64) -> Result<(), AllocError> {
     )
 }
 
-/// Appends the sentence on the reads that are off, or nothing if there are none.
+/// Appends the updates of a state, of those that committed before the query.
+fn push_updates(out: &mut String, nearest: Nearest<'_>) -> Result<(), AllocError> {
+    if nearest.updates < nearest.committed {
+        push_number(out, nearest.updates)?;
+        out.push_str(" of the ")?;
+    } else if nearest.updates > 2 {
+        out.push_str("all ")?;
+    }
+    if nearest.updates == 2 && nearest.committed == 2 {
+        out.push_str("both")?;
+    } else {
+        push_number(out, nearest.committed)?;
+    }
+    out.push_str(if nearest.updates == 1 {
+        " updates that committed before it: "
+    } else {
+        " updates that committed before it, the last of them "
+    })?;
+    out.push_str(nearest.last)?;
+    out.push_str(" in step ")?;
+    push_number(out, nearest.step)
+}
+
+/// Appends a state.
+fn push_state(out: &mut String, nearest: Nearest<'_>) -> Result<(), AllocError> {
+    let name = nearest.last;
+    match (nearest.updates, nearest.committed) {
+        (0, 0) => out.push_str("the opening values"),
+        (0, _) => out.push_str("the opening values, before all updates"),
+        (1, 1) => {
+            write!(out, "that after {name}, which committed in step ")?;
+            push_number(out, nearest.step)
+        }
+        _ => {
+            out.push_str("that after ")?;
+            push_updates(out, nearest)
+        }
+    }
+}
+
+/// Appends the sentence on the state that the reads agree with or differ from, or nothing if the query has not committed.
 fn push_nearest(out: &mut String, nearest: Option<Nearest<'_>>) -> Result<(), AllocError> {
     let Some(nearest) = nearest else {
         return Ok(());
     };
     let query = nearest.query;
-    write!(
-        out,
-        "Reads of {query} in red differ from its nearest state: "
-    )?;
-    if nearest.updates == 0 {
-        return out.push_str("before all updates.");
-    }
-    let name = nearest.last;
-    if nearest.updates == 1 {
-        write!(out, "after {name}, which committed in step ")?;
+    if nearest.is_exact {
+        write!(out, "All reads of {query} agree with one state: ")?;
     } else {
-        out.push_str("after ")?;
-        push_number(out, nearest.updates)?;
         write!(
             out,
-            " updates, the last of which, {name}, committed in step "
+            "Reads of {query} in red differ from its nearest state: "
         )?;
     }
-    push_number(out, nearest.step)?;
+    push_state(out, nearest)?;
     out.push('.')
+}
+
+/// Appends the sentence on the entries that were refused for a mistake, or nothing if there are none.
+fn push_mistakes(out: &mut String, mistakes: Mistakes) -> Result<(), AllocError> {
+    if mistakes.count == 0 {
+        return Ok(());
+    }
+    if mistakes.count == 1 {
+        out.push_str("Step ")?;
+        push_number(out, mistakes.first)?;
+        return out.push_str(" was refused as invalid and changed nothing, so it has no mark.");
+    }
+    out.push_str("Steps ")?;
+    push_number(out, mistakes.first)?;
+    out.push_str(if mistakes.count == 2 { " and " } else { ", " })?;
+    push_number(out, mistakes.second)?;
+    if mistakes.count > 2 {
+        out.push_str(" and ")?;
+        push_number(out, mistakes.count.saturating_sub(2))?;
+        out.push_str(" more")?;
+    }
+    out.push_str(" were refused as invalid and changed nothing, so they have no marks.")
 }
 
 /// Appends what a charged update did, as a clause after its name.
@@ -282,6 +335,9 @@ fn push_sentences(
     push_lines(alloc, lines, LineClass::Sentence, &words, letters)?;
     words.clear();
     push_farthest(&mut words, scene.farthest)?;
+    push_lines(alloc, lines, LineClass::Sentence, &words, letters)?;
+    words.clear();
+    push_mistakes(&mut words, scene.mistakes)?;
     push_lines(alloc, lines, LineClass::Sentence, &words, letters)?;
     words.clear();
     push_omissions(&mut words, scene, bands)?;

@@ -6,6 +6,7 @@
 #![tactic(auto)]
 
 mod part;
+mod relevance;
 mod sentences;
 mod subject;
 mod sum_errors;
@@ -14,6 +15,7 @@ mod trace;
 mod traces;
 
 pub use part::Part;
+pub use relevance::{Placement, relevant_updates};
 pub use sentences::{push_nearest_moment, push_strict, push_verdict, sentences_of};
 pub use subject::Audited;
 pub use sum_errors::sum_error;

@@ -1,13 +1,18 @@
 //! The sentences above the lanes of a picture, which prose has too: whether the values read ever existed at one moment,
-//! the nearest moment, the charges and the updates charged, and the updates that a strict query had to follow.
+//! the nearest moment, the charges and the updates charged, those of them that are in no picture, and the updates that a
+//! strict query had to follow.
 
 use crate::subject::Audited;
 use crate::text::{MAX_NAMES, push_names, push_rest};
-use crate::trace::{QueryTrace, Sum};
+use crate::trace::{QueryTrace, Sum, WriterEnd};
 use esr_history::{MAX_LIMIT, TxnId};
+use esr_outcomes::{TxnOutcome, outcome_of};
 use esr_report::name_of_transaction;
 use esr_text::{first, push_number};
 use std::alloc::{AllocError, Global};
+
+/// The maximum number of names of updates that were charged and have no box.
+const MAX_ABSENT: usize = 8;
 
 /// The name of a transaction.
 fn name<'a>(audited: &Audited<'a>, txn: TxnId) -> &'a str {
@@ -154,20 +159,162 @@ fn push_predecessors(
     out.push_str(", which had committed before it began.")
 }
 
+/// Why an update that was charged has no box in a picture.
+#[derive(Clone, Copy, PartialEq, Eq)]
+enum Absence {
+    CommittedLater,
+    Aborted,
+    NeverEnded,
+}
+
+static ABSENCES: [Absence; 3] = [
+    Absence::CommittedLater,
+    Absence::Aborted,
+    Absence::NeverEnded,
+];
+
+fn absences() -> &'static [Absence] {
+    &ABSENCES
+}
+
+/// Returns why an update has no box, if it has none.
+fn absence_of(audited: &Audited<'_>, trace: &QueryTrace, update: TxnId) -> Option<Absence> {
+    let facts = audited.history.facts(update);
+    let has_ended = facts.is_some_and(|facts| facts.end.is_some());
+    match trace.end(update) {
+        WriterEnd::Committed => None,
+        WriterEnd::Aborted => Some(Absence::Aborted),
+        WriterEnd::Later if has_ended => Some(match outcome_of(audited.history, update) {
+            TxnOutcome::Aborted => Absence::Aborted,
+            _ => Absence::CommittedLater,
+        }),
+        WriterEnd::Later => Some(Absence::NeverEnded),
+    }
+}
+
+/// Returns the updates that were charged and have no box for this reason, those that were charged most first.
+fn absent(
+    alloc: Global,
+    audited: &Audited<'_>,
+    trace: &QueryTrace,
+    charges: &[Sum],
+    reason: Absence,
+) -> Result<Vec<TxnId>, AllocError> {
+    let mut absent = Vec::new(alloc);
+    for charge in charges {
+        let update = TxnId(charge.number);
+        if absence_of(audited, trace, update) == Some(reason) {
+            absent.push(update)?;
+        }
+    }
+    Ok(absent)
+}
+
+/// Appends the first names of some updates, and the number of the others.
+fn push_first_names(
+    out: &mut String,
+    audited: &Audited<'_>,
+    updates: &[TxnId],
+) -> Result<(), AllocError> {
+    let mut joint = "";
+    for update in first(updates, MAX_ABSENT) {
+        out.push_str(joint)?;
+        out.push_str(name(audited, *update))?;
+        joint = ", ";
+    }
+    let others = updates.len().saturating_sub(MAX_ABSENT);
+    if others > 0 {
+        out.push_str(" and ")?;
+        push_number(out, others as u64)?;
+        out.push_str(" more")?;
+    }
+    Ok(())
+}
+
+/// Appends the reason why one update, or several, have no box.
+fn push_reason(
+    out: &mut String,
+    query: &str,
+    reason: Absence,
+    is_one: bool,
+) -> Result<(), AllocError> {
+    match (reason, is_one) {
+        (Absence::CommittedLater, true) => write!(
+            out,
+            ": it committed after {query}, so every serial placement has it after {query}"
+        ),
+        (Absence::CommittedLater, false) => write!(
+            out,
+            ": they committed after {query}, so every serial placement has them after {query}"
+        ),
+        (Absence::Aborted, true) => out.push_str(": it aborted, so no serial placement has it"),
+        (Absence::Aborted, false) => {
+            out.push_str(": they aborted, so no serial placement has them")
+        }
+        (Absence::NeverEnded, true) => {
+            out.push_str(": it has not ended, so no serial placement has it")
+        }
+        (Absence::NeverEnded, false) => {
+            out.push_str(": they have not ended, so no serial placement has them")
+        }
+    }
+}
+
+/// Appends which updates were charged and have no box for this reason, if there are any.
+fn push_absent(
+    alloc: Global,
+    out: &mut String,
+    audited: &Audited<'_>,
+    trace: &QueryTrace,
+    charges: &[Sum],
+    reason: Absence,
+) -> Result<(), AllocError> {
+    let absent = absent(alloc, audited, trace, charges, reason)?;
+    if absent.is_empty() {
+        return Ok(());
+    }
+    out.push_str(if out.is_empty() { "" } else { ". " })?;
+    push_first_names(out, audited, &absent)?;
+    let query = name(audited, audited.finding.query);
+    let is_one = absent.len() == 1;
+    let has = if is_one { "has" } else { "have" };
+    write!(out, " charged {query} but {has} no box")?;
+    push_reason(out, query, reason, is_one)
+}
+
+/// Appends which updates were charged and have no box, and why, if there are any.
+fn push_all_absent(
+    alloc: Global,
+    out: &mut String,
+    audited: &Audited<'_>,
+    trace: &QueryTrace,
+) -> Result<(), AllocError> {
+    let charges = trace.sums_by_update(alloc)?;
+    for reason in absences() {
+        push_absent(alloc, out, audited, trace, &charges, *reason)?;
+    }
+    if out.is_empty() {
+        return Ok(());
+    }
+    out.push('.')
+}
+
 /// A sentence above the lanes.
 #[derive(Clone, Copy)]
 enum Sentence {
     Verdict,
     Nearest,
     Charge,
+    Absent,
     Strict,
 }
 
 /// The sentences above the lanes, of those that there are.
-static SENTENCES: [Sentence; 4] = [
+static SENTENCES: [Sentence; 5] = [
     Sentence::Verdict,
     Sentence::Nearest,
     Sentence::Charge,
+    Sentence::Absent,
     Sentence::Strict,
 ];
 
@@ -188,6 +335,7 @@ fn push_sentence(
         Sentence::Nearest if audited.finding.distance == 0 => Ok(()),
         Sentence::Nearest => push_nearest_moment(out, audited, trace),
         Sentence::Charge => push_charge_sentence(alloc, out, audited, trace),
+        Sentence::Absent => push_all_absent(alloc, out, audited, trace),
         Sentence::Strict => push_strict(alloc, out, audited),
     }
 }

@@ -227,7 +227,7 @@ fn of_many_updates_the_bounding_ones_are_drawn(rt: HostRuntime) {
         lanes,
         ("Not drawn: 27 more updates.", 1),
         (">off by 28<", 1),
-        ("keeps the line", 0),
+        ("At another place of the line", 0),
     ];
     occurs(&rt, rt.alloc(), 30, &of_many);
 }

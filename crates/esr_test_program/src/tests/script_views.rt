@@ -201,10 +201,10 @@ static BANK_TIMELINE: [&str; 13] = [
     "<title>step 2, line 4: report read checking: 500</title><circle class='mr' ",
     "<title>step 4, line 6: transfer wrote checking: 400</title><rect class='mw' ",
     "<title>step 4, line 6: transfer charged report 100 for checking: 500 to 400</title></path>\n",
-    ">+100</text>\n",
+    ">+100 for checking</text>\n",
     ">500 to 400</text>\n",
     "<g class='tn' transform='scale(",
-    "<title>step 7, line 9: report read savings: 1,600, which is 1,500 in the nearest state</title><circle class='mo' ",
+    "<title>step 7, line 9: report read savings: 1,600, which is 1,500 in the nearest state; transfer wrote 1,600 in step 5</title><circle class='mo' ",
     "<title>step 8, line 10: report committed</title>",
     ">off by 100</text>\n",
 ];

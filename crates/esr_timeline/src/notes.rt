@@ -1,0 +1,133 @@
+//! What explains the value of a read: the write of it, or of the value that its item has in the nearest placement. If the
+//! update was not charged, the note names the charged update that it follows (`predecessors`).
+//!
+//! Both are found along the entries of the item, from the read or from the last entry back. An update holds the lock of an
+//! item until it ends, so the last write of an update before the placement is that of the value there.
+
+use crate::causes::Causes;
+use crate::source::Source;
+use esr_chart::{Mark, Note};
+use esr_history::{Event, TxnId};
+use esr_items::ItemId;
+use esr_outcomes::{TxnOutcome, outcome_of};
+use esr_report::name_of_transaction;
+use esr_trace::Placement;
+
+/// An accepted write.
+#[derive(Clone, Copy)]
+struct Write {
+    update: TxnId,
+    value: i64,
+    place: usize,
+}
+
+/// Returns the write of an entry, if it is an accepted one.
+fn write_at(source: Source<'_>, index: u64) -> Option<Write> {
+    let entry = source.history.log().get(index as usize)?;
+    match entry.event {
+        Event::Write { txn, value, .. } if !entry.is_refused() => Some(Write {
+            update: txn,
+            value,
+            place: index as usize,
+        }),
+        _ => None,
+    }
+}
+
+/// Returns whether an update had aborted before an entry.
+fn had_aborted(source: Source<'_>, update: TxnId, place: usize) -> bool {
+    let end = source.history.facts(update).and_then(|facts| facts.end);
+    outcome_of(source.history, update) == TxnOutcome::Aborted
+        && end.is_some_and(|end| (end as usize) < place)
+}
+
+/// Returns the write of the value that the read of an entry returned, unless that is the opening value.
+fn write_read(source: Source<'_>, place: usize) -> Option<Write> {
+    let mut next = source.history.earlier_on_item(place as u64);
+    for _ in 0..source.history.log().len() {
+        let index = next?;
+        if let Some(write) = write_at(source, index)
+            && !had_aborted(source, write.update, place)
+        {
+            return Some(write);
+        }
+        next = source.history.earlier_on_item(index);
+    }
+    None
+}
+
+/// Returns the write of the value of an item in a placement, unless that is the opening value.
+fn write_kept(source: Source<'_>, placement: &Placement, item: ItemId) -> Option<Write> {
+    let mut next = source.history.last_on_item(item);
+    for _ in 0..source.history.log().len() {
+        let index = next?;
+        if let Some(write) = write_at(source, index)
+            && placement.has_before(write.update)
+        {
+            return Some(write);
+        }
+        next = source.history.earlier_on_item(index);
+    }
+    None
+}
+
+/// Returns a write as a note.
+fn wrote<'a>(source: Source<'a>, write: Write) -> Note<'a> {
+    Note::Wrote {
+        update: name_of_transaction(source.transactions, write.update),
+        value: write.value,
+        place: write.place,
+        follows: "",
+    }
+}
+
+/// Returns the name of the charged update that the writer of an entry follows, or nothing if it was charged itself or is
+/// before the nearest placement.
+fn followed_by<'a>(source: Source<'a>, causes: &Causes, place: usize) -> &'a str {
+    let Some(write) = write_at(source, place as u64) else {
+        return "";
+    };
+    match causes.cause_of(write.update) {
+        Some(cause) if cause != write.update => name_of_transaction(source.transactions, cause),
+        _ => "",
+    }
+}
+
+/// Completes the notes at the reads of the lane of a query with these causes.
+pub fn complete_notes<'a>(
+    source: Source<'a>,
+    causes: &Causes,
+    marks: &mut [Mark<'a>],
+    query_lane: usize,
+) {
+    for mark in marks {
+        if mark.lane == query_lane
+            && let Some(Note::Wrote { place, follows, .. }) = &mut mark.note
+        {
+            *follows = followed_by(source, causes, *place);
+        }
+    }
+}
+
+/// Returns what explains the value that the read of an entry returned, if it is off or its writer is not before the nearest
+/// placement.
+pub fn note_of<'a>(
+    source: Source<'a>,
+    placement: &Placement,
+    place: usize,
+    item: ItemId,
+    is_off: bool,
+) -> Option<Note<'a>> {
+    let late = write_read(source, place).filter(|write| !placement.has_before(write.update));
+    match (late, is_off) {
+        (Some(write), true) => Some(wrote(source, write)),
+        (None, true) => write_kept(source, placement, item).map(|write| wrote(source, write)),
+        (Some(_), false) => Some(Note::Equals {
+            update: match placement.writer(item.0) {
+                Some(update) => name_of_transaction(source.transactions, update),
+                None => "",
+            },
+        }),
+        (None, false) => None,
+    }
+}
