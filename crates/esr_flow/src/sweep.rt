@@ -56,6 +56,9 @@ struct Searches {
     queue: Vec<u32>,
     /// The label of each node.
     node_labels: Vec<NodeLabel>,
+    /// Whether a back arc at each node may carry an amount that a search from there could cancel. Most nodes have none, so a
+    /// search does not look up the amounts on their back arcs.
+    may_cancel: Vec<bool>,
 }
 
 /// Returns the capacity left on an arc that carries an amount.
@@ -66,18 +69,38 @@ fn capacity_on(capacity: Option<u64>, amount: u64) -> u64 {
     }
 }
 
-/// A graph, and the capacities of the arcs of chains, by number: these arcs have the first numbers, and are read most.
-/// Each capacity takes four bytes: one that does not fit is the largest number, and the arc is looked up.
+/// An arc of a chain. Its capacity takes four bytes: one that does not fit is the largest number, and the arc is looked up.
+#[derive(Clone, Copy)]
+struct ChainArc {
+    limit: u32,
+    from: u32,
+    to: u32,
+}
+
+/// A graph, with the arcs of chains and the pairs by number: the arcs of chains have the first numbers, and those of pairs follow.
 #[derive(Drop)]
 struct Field<'a> {
     graph: &'a ResidualGraph<'a>,
-    limits: Vec<u32>,
+    chain_arcs: Vec<ChainArc>,
+    /// The precedence pairs. The arc of a pair leads from the second update to the first.
+    pairs: &'a [(u32, u32)],
 }
 
-/// Adds the capacities of the arcs of a chain.
-fn push_limits(limits: &mut Vec<u32>, costs: &[u64]) -> Result<(), AllocError> {
-    for cost in costs {
-        limits.push(u32::try_from(*cost).unwrap_or(u32::MAX))?;
+/// Adds the arcs of a chain.
+fn push_chain_arcs(
+    chain_arcs: &mut Vec<ChainArc>,
+    chain: &Chain,
+    source: u32,
+) -> Result<(), AllocError> {
+    let mut from = source;
+    for (j, cost) in chain.costs.iter().enumerate() {
+        let to = match chain.writers.get(j) {
+            Some(writer) => *writer,
+            None => source.saturating_add(1),
+        };
+        let limit = u32::try_from(*cost).unwrap_or(u32::MAX);
+        chain_arcs.push(ChainArc { limit, from, to })?;
+        from = to;
     }
     Ok(())
 }
@@ -89,25 +112,43 @@ impl<'a> Field<'a> {
         for chain in chains {
             count = count.saturating_add(chain.costs.len());
         }
-        let mut limits = Vec::with_capacity(alloc, count)?;
+        let mut chain_arcs = Vec::with_capacity(alloc, count)?;
         for chain in chains {
-            push_limits(&mut limits, &chain.costs)?;
+            push_chain_arcs(&mut chain_arcs, chain, graph.source as u32)?;
         }
-        Ok(Field { graph, limits })
+        let pairs = graph.problem.before();
+        Ok(Field {
+            graph,
+            chain_arcs,
+            pairs,
+        })
     }
 
     /// Returns the capacity of an arc, or `None` if the arc is not in a chain.
     fn limit(&self, number: u32) -> Option<u64> {
-        let short = self.limits.get(number as usize).copied()?;
-        if short == u32::MAX {
+        let arc = self.chain_arcs.get(number as usize).copied()?;
+        if arc.limit == u32::MAX {
             return arc_at(self, number).capacity;
         }
-        Some(u64::from(short))
+        Some(u64::from(arc.limit))
     }
 
     /// Returns whether an arc is in a chain.
     fn is_of_chain(&self, number: u32) -> bool {
-        (number as usize) < self.limits.len()
+        (number as usize) < self.chain_arcs.len()
+    }
+
+    /// Returns the tail and the head of an arc.
+    fn ends(&self, number: u32) -> (u32, u32) {
+        let place = number as usize;
+        if let Some(arc) = self.chain_arcs.get(place) {
+            return (arc.from, arc.to);
+        }
+        if let Some(pair) = self.pairs.get(place.saturating_sub(self.chain_arcs.len())) {
+            return (pair.1, pair.0);
+        }
+        let arc = arc_at(self, number);
+        (arc.from, arc.to)
     }
 }
 
@@ -164,11 +205,11 @@ fn arc_at(field: &Field, number: u32) -> Arc {
 /// Returns the end of a step that is nearer to the start of the search, and the residual capacity of the step.
 fn end_and_capacity(field: &Field, flow: &[u64], sweep: Sweep, step: ResidualArc) -> (u32, u64) {
     let number = step.arc();
-    let arc = arc_at(field, number);
+    let (from, to) = field.ends(number);
     let amount = number_at(flow, number as usize);
     let (start, finish, spare_capacity) = match step {
-        ResidualArc::Forward(_) => (arc.from, arc.to, capacity_on(field.limit(number), amount)),
-        ResidualArc::Backward(_) => (arc.to, arc.from, amount),
+        ResidualArc::Forward(_) => (from, to, capacity_on(field.limit(number), amount)),
+        ResidualArc::Backward(_) => (to, from, amount),
     };
     match sweep {
         Sweep::Back(_) => (finish, spare_capacity),
@@ -185,28 +226,40 @@ fn step_of(sweep: Sweep, step: ResidualArc) -> ResidualArc {
     }
 }
 
-/// Returns the other end of the arc of a step from a node, and the residual step over it, if a sweep may use it. Amounts are
-/// subtracted from back arcs only, since each arc of a chain has a back arc in the opposite direction.
-fn step_over(
-    field: &Field,
-    flow: &[u64],
-    sweep: Sweep,
-    step: ResidualArc,
-) -> Option<(u32, ResidualArc)> {
-    let residual_step = step_of(sweep, step);
+/// Returns whether a sweep may use a residual step. Amounts are subtracted from back arcs only, since each arc of a chain has a
+/// back arc in the opposite direction.
+fn is_open(field: &Field, flow: &[u64], residual_step: ResidualArc) -> bool {
     let number = residual_step.arc();
-    let amount = number_at(flow, number as usize);
-    let is_open = match residual_step {
-        ResidualArc::Forward(_) => 0 < capacity_on(field.limit(number), amount),
-        ResidualArc::Backward(_) => 0 < amount && !field.is_of_chain(number),
-    };
-    if !is_open {
-        return None;
+    match residual_step {
+        ResidualArc::Forward(_) => match field.limit(number) {
+            Some(limit) => number_at(flow, number as usize) < limit,
+            None => true,
+        },
+        ResidualArc::Backward(_) => {
+            !field.is_of_chain(number) && 0 < number_at(flow, number as usize)
+        }
     }
-    let arc = arc_at(field, number);
-    match step {
-        ResidualArc::Forward(_) => Some((arc.to, residual_step)),
-        ResidualArc::Backward(_) => Some((arc.from, residual_step)),
+}
+
+/// Returns the end of a residual step that is farther from the start of the search.
+fn far_end(field: &Field, sweep: Sweep, residual_step: ResidualArc) -> u32 {
+    let (from, to) = field.ends(residual_step.arc());
+    let (start, finish) = match residual_step {
+        ResidualArc::Forward(_) => (from, to),
+        ResidualArc::Backward(_) => (to, from),
+    };
+    match sweep {
+        Sweep::Back(_) => start,
+        Sweep::Forward => finish,
+    }
+}
+
+/// Returns the node from which a search of a sweep could cancel the amount on an arc.
+fn canceller(field: &Field, sweep: Sweep, number: u32) -> u32 {
+    let (from, to) = field.ends(number);
+    match sweep {
+        Sweep::Back(_) => from,
+        Sweep::Forward => to,
     }
 }
 
@@ -228,19 +281,54 @@ fn takes_part(field: &Field, sweep: Sweep, node: u32) -> bool {
 
 impl Searches {
     /// Prepares searches in a graph of `node_count` nodes.
-    fn new(alloc: Global, node_count: usize, sweep: Sweep) -> Result<Searches, AllocError> {
+    fn new(
+        alloc: Global,
+        field: &Field,
+        flow: &[u64],
+        sweep: Sweep,
+    ) -> Result<Searches, AllocError> {
+        let node_count = field.graph.node_count;
         let unlabelled = NodeLabel {
             search_number: 0,
             step: ResidualArc::Forward(0),
             is_dead: false,
         };
-        Ok(Searches {
+        let mut searches = Searches {
             sweep,
             visits_left: MAX_VISITS_PER_NODE.saturating_mul(node_count as u64),
             search_number: 0,
             queue: Vec::with_capacity(alloc, node_count)?,
             node_labels: vec![in alloc; unlabelled; node_count]?,
-        })
+            may_cancel: vec![in alloc; false; node_count]?,
+        };
+        searches.note_amounts(field, flow);
+        Ok(searches)
+    }
+
+    /// Notes the nodes at which a back arc carries an amount.
+    fn note_amounts(&mut self, field: &Field, flow: &[u64]) {
+        for i in field.chain_arcs.len()..flow.len() {
+            if 0 < flow[i] {
+                self.note(field, u32::try_from(i).unwrap_or(u32::MAX));
+            }
+        }
+    }
+
+    /// Notes that an arc carries an amount.
+    fn note(&mut self, field: &Field, number: u32) {
+        let node = canceller(field, self.sweep, number) as usize;
+        if node < self.may_cancel.len() {
+            self.may_cancel[node] = true;
+        }
+    }
+
+    /// Returns whether a residual step from a node is certainly closed.
+    fn is_idle(&self, node: u32, residual_step: ResidualArc) -> bool {
+        let may_cancel = self.may_cancel.get(node as usize).copied().unwrap_or(true);
+        match residual_step {
+            ResidualArc::Forward(_) => false,
+            ResidualArc::Backward(_) => !may_cancel,
+        }
     }
 
     /// Begins a search from a node.
@@ -296,7 +384,9 @@ impl Searches {
     ) -> Result<Option<ResidualArc>, AllocError> {
         self.visits_left = self.visits_left.saturating_sub(1);
         for short in row_of(field, node as usize) {
-            if let Some((next, step)) = step_over(field, flow, self.sweep, short.unpack()) {
+            let step = step_of(self.sweep, short.unpack());
+            if !self.is_idle(node, step) && is_open(field, flow, step) {
+                let next = far_end(field, self.sweep, step);
                 if is_outside(field, self.sweep, update, next) {
                     return Ok(Some(step));
                 }
@@ -351,12 +441,20 @@ impl Searches {
     }
 
     /// Adds an amount on each arc of a path.
-    fn augment(&self, field: &Field, flow: &mut [u64], update: u32, last: ResidualArc, amount: u64)
+    fn augment(
+        &mut self,
+        field: &Field,
+        flow: &mut [u64],
+        update: u32,
+        last: ResidualArc,
+        amount: u64,
+    )
         ensures { length flow.new ≡ length flow.old }
     {
         let mut step = last;
         for _ in 0..field.graph.node_count {
             augment_over(field, flow, step, amount);
+            self.note(field, step.arc());
             let (node, _) = end_and_capacity(field, flow, self.sweep, step);
             if node == update {
                 return;
@@ -403,8 +501,8 @@ fn take_back(field: &Field, flow: &mut [u64], from: u32, to: u32, amount: u64) -
         if left == 0 || !field.is_of_chain(number) {
             return left;
         }
-        let arc = arc_at(field, number);
-        if arc.from == from && arc.to == to {
+        let (tail, head) = field.ends(number);
+        if tail == from && head == to {
             left = left.saturating_sub(take_at(flow, number as usize, left));
         }
     }
@@ -424,8 +522,8 @@ fn augment_over(field: &Field, flow: &mut [u64], step: ResidualArc, amount: u64)
             let more = if field.is_of_chain(number) {
                 amount
             } else {
-                let arc = arc_at(field, number);
-                take_back(field, flow, arc.to, arc.from, amount)
+                let (from, to) = field.ends(number);
+                take_back(field, flow, to, from, amount)
             };
             add_at(flow, number as usize, more);
         }
@@ -535,7 +633,7 @@ fn must_arc(field: &Field, node: usize) -> Option<u32> {
         return None;
     }
     let number = row_of(field, node).last()?.unpack().arc();
-    if !field.is_of_chain(number) && arc_at(field, number).from as usize == field.graph.source {
+    if !field.is_of_chain(number) && field.ends(number).0 as usize == field.graph.source {
         Some(number)
     } else {
         None
@@ -587,10 +685,10 @@ fn released(field: &Field, flow: &mut [u64], owed: &mut [u64], sweep: Sweep, nod
         if !asks(sweep, step) {
             let taken = take_at(flow, step.arc() as usize, left);
             left = left.saturating_sub(taken);
-            let arc = arc_at(field, step.arc());
+            let (from, to) = field.ends(step.arc());
             let (next, is_before) = match sweep {
-                Sweep::Back(_) => (arc.to, arc.to < node),
-                Sweep::Forward => (arc.from, node < arc.from),
+                Sweep::Back(_) => (to, to < node),
+                Sweep::Forward => (from, node < from),
             };
             if takes_part(field, sweep, next) {
                 add_at(owed, next as usize, taken);
@@ -631,7 +729,7 @@ fn add_back(
 ) -> Result<Vec<u64>, AllocError>
     ensures { length flow.new ≡ length flow.old }
 {
-    let mut searches = Searches::new(alloc, field.graph.node_count, Sweep::Back(middle))?;
+    let mut searches = Searches::new(alloc, field, flow, Sweep::Back(middle))?;
     let mut owed = vec![in alloc; 0u64; field.graph.node_count]?;
     for update in (0..middle).rev() {
         let left = add_update(field, flow, &mut searches, update)?;
@@ -649,7 +747,7 @@ fn add_forward(
 ) -> Result<Vec<u64>, AllocError>
     ensures { length flow.new ≡ length flow.old }
 {
-    let mut searches = Searches::new(alloc, field.graph.node_count, Sweep::Forward)?;
+    let mut searches = Searches::new(alloc, field, flow, Sweep::Forward)?;
     let mut owed = vec![in alloc; 0u64; field.graph.node_count]?;
     for update in middle..field.graph.source as u32 {
         let left = add_update(field, flow, &mut searches, update)?;

@@ -16,7 +16,9 @@
 //!
 //! A version takes 16 bytes. Until the sweep has passed it, the field `amount` holds the cost of the version that it overwrites;
 //! afterwards, its own amount. So a search computes the costs on its path again. All stored costs and amounts include the
-//! offset. Rejected: separate lists of costs, amounts, writers and links, which take 28 bytes, and are filled one after another.
+//! offset. A version also records the writer and the residual capacity of the version that it overwrites. So listing a version
+//! does not access the version that it overwrites, and a search reads only the versions of the updates that it visits, which are
+//! adjacent. Rejected: separate lists of costs, amounts, writers and links, which take 28 bytes, and are filled one after another.
 ghost use Rattle.std.specs.Prelude.{◌≡◌, ◌<◌, All, length};
 ghost use Rattle.esr_items.specs.Values.{IsValue};
 ghost use Rattle.esr_stream.specs.Reads.{AreReadsInRange};
@@ -39,11 +41,11 @@ pub struct Version {
     /// Its amount. Before the sweep has passed it: the cost of the version that it overwrites.
     pub amount: u64,
     /// Twice the id of the version that it overwrites (`NONE` for an opening value and for an unused version), plus 1 if the sweep
-    /// has passed it and its amount is less than its cost.
+    /// has passed it and the amount of the version that it overwrites is less than the cost.
     link: u32,
-    /// The position in commit order of the update that writes it; `NOBODY` for an opening value.
-    pub writer: u16,
-    /// The position in commit order of the update that overwrites it; `NOBODY` if none does.
+    /// The position in commit order of the update that wrote the version that it overwrites; `NOBODY` for an opening value.
+    pub overwritten_writer: u16,
+    /// The position in commit order of the update that overwrites it, once the sweep has passed it; `NOBODY` if none does.
     pub overwriter: u16,
 }
 
@@ -53,20 +55,10 @@ impl Version {
         self.link >> 1
     }
 
-    /// Returns whether the sweep has passed it and its amount is less than its cost. An opening value counts as having none:
-    /// no search visits it.
-    pub fn has_residual(self) -> bool {
+    /// Returns whether the sweep has passed it and the version that it overwrites has residual capacity: its amount is less than
+    /// its cost.
+    pub fn can_increase_overwritten(self) -> bool {
         self.link & 1 == 1
-    }
-
-    /// Returns the version with its overwriter set.
-    fn with_overwriter(self, overwriter: u16) -> Version {
-        Version {
-            amount: self.amount,
-            link: self.link,
-            writer: self.writer,
-            overwriter,
-        }
     }
 
     /// Returns the version without an amount, as if it overwrote no version.
@@ -74,19 +66,39 @@ impl Version {
         Version {
             amount: 0,
             link: link_to(NONE),
-            writer: self.writer,
-            overwriter: self.overwriter,
+            overwritten_writer: NOBODY,
+            overwriter: NOBODY,
         }
     }
 
     /// Returns the version with another amount.
-    fn with_amount(self, amount: u64, has_residual: bool) -> Version {
-        let residual = if has_residual { 1 } else { 0 };
+    fn with_amount(self, amount: u64) -> Version {
         Version {
             amount,
-            link: (self.link >> 1 << 1) | residual,
-            writer: self.writer,
+            link: self.link,
+            overwritten_writer: self.overwritten_writer,
             overwriter: self.overwriter,
+        }
+    }
+
+    /// Returns the version with the fact whether the version that it overwrites has residual capacity.
+    fn with_residual(self, has_residual: bool) -> Version {
+        let residual = if has_residual { 1 } else { 0 };
+        Version {
+            amount: self.amount,
+            link: (self.link >> 1 << 1) | residual,
+            overwritten_writer: self.overwritten_writer,
+            overwriter: self.overwriter,
+        }
+    }
+
+    /// Returns the version with its overwriter.
+    fn with_overwriter(self, overwriter: u16) -> Version {
+        Version {
+            amount: self.amount,
+            link: self.link,
+            overwritten_writer: self.overwritten_writer,
+            overwriter,
         }
     }
 }
@@ -100,10 +112,15 @@ fn link_to(overwritten: u32) -> u32 {
 /// the position of the sweep.
 #[derive(Clone, Copy)]
 struct CurrentVersion {
-    id: u32,
     /// Its cost, plus the offset.
     cost: u64,
     amount: u64,
+    id: u32,
+    /// During the sweep, the id of the version that overwrites it; `NONE` if none does.
+    overwriting: u32,
+    /// The position in commit order of its writer while the versions are listed, and of its overwriter during the sweep; `NOBODY`
+    /// if there is none.
+    neighbor: u16,
 }
 
 /// The versions of the items: the opening values by item, then one version for each access, in order.
@@ -161,22 +178,29 @@ impl ProposedAmounts {
                 ItemId(x),
                 history.opening(ItemId(x)),
             );
-            amounts.push_version(NOBODY, NONE, 0)?;
+            amounts.push_version(NONE, NOBODY, 0)?;
             amounts.current.push(CurrentVersion {
-                id: x,
                 cost,
                 amount: 0,
+                id: x,
+                overwriting: NONE,
+                neighbor: NOBODY,
             })?;
         }
         Ok(amounts)
     }
 
-    /// Appends a version. `cost` is that of the version that it overwrites, or 0.
-    fn push_version(&mut self, writer: u16, overwritten: u32, cost: u64) -> Result<(), AllocError> {
+    /// Appends a version. The arguments are the id, the writer and the cost of the version that it overwrites.
+    fn push_version(
+        &mut self,
+        overwritten: u32,
+        overwritten_writer: u16,
+        cost: u64,
+    ) -> Result<(), AllocError> {
         self.versions.push(Version {
             amount: cost,
             link: link_to(overwritten),
-            writer,
+            overwritten_writer,
             overwriter: NOBODY,
         })?;
         Ok(())
@@ -190,6 +214,20 @@ impl ProposedAmounts {
         };
         if first <= self.versions.len() {
             &self.versions[first..]
+        } else {
+            &[]
+        }
+    }
+
+    /// Returns the versions of an update.
+    pub fn versions_of(&self, update: u16) -> &[Version] {
+        let first = self.first_version(update) as usize;
+        let end = match self.starts.get((update as usize).saturating_add(1)) {
+            Some(end) => *end as usize,
+            None => first,
+        };
+        if first <= end && end <= self.versions.len() {
+            &self.versions[first..end]
         } else {
             &[]
         }
@@ -210,7 +248,7 @@ impl ProposedAmounts {
             None => Version {
                 amount: 0,
                 link: link_to(NONE),
-                writer: NOBODY,
+                overwritten_writer: NOBODY,
                 overwriter: NOBODY,
             },
         }
@@ -221,9 +259,11 @@ impl ProposedAmounts {
         match self.current.get(x.0 as usize) {
             Some(current) => *current,
             None => CurrentVersion {
-                id: NONE,
                 cost: 0,
                 amount: 0,
+                id: NONE,
+                overwriting: NONE,
+                neighbor: NOBODY,
             },
         }
     }
@@ -252,22 +292,27 @@ impl ProposedAmounts {
         id: u32,
     ) -> Result<(), AllocError> {
         let current = self.current_version(x);
-        let before = self.version(current.id);
         self.set_current(
             x,
             CurrentVersion {
-                id,
                 cost,
                 amount: 0,
+                id,
+                overwriting: NONE,
+                neighbor: update,
             },
         );
         if current.id < first_version {
-            self.set_version(current.id, before.with_overwriter(update));
-            return self.push_version(update, current.id, current.cost);
+            return self.push_version(current.id, current.neighbor, current.cost);
         }
         // the same update has written the item before; that write no longer counts
+        let before = self.version(current.id);
         self.set_version(current.id, before.without_link());
-        self.push_version(update, before.overwritten(), before.amount)
+        self.push_version(
+            before.overwritten(),
+            before.overwritten_writer,
+            before.amount,
+        )
     }
 
     /// Appends the accesses of an update.
@@ -290,7 +335,7 @@ impl ProposedAmounts {
                 let cost = raised_cost(metric, values_read, access.item, access.value);
                 self.push_write(access.item, cost, update, first_version, id)?;
             } else {
-                self.push_version(update, NONE, 0)?;
+                self.push_version(NONE, NOBODY, 0)?;
             }
             id = id.saturating_add(1);
         }
@@ -304,9 +349,11 @@ impl ProposedAmounts {
         for x in 0..self.current.len() {
             let current = self.current[x];
             self.current[x] = CurrentVersion {
-                id: current.id,
                 cost: current.cost,
                 amount: current.cost,
+                id: current.id,
+                overwriting: NONE,
+                neighbor: NOBODY,
             };
         }
         Ok(())
@@ -317,7 +364,7 @@ impl ProposedAmounts {
         for x in 0..to_u32_or_max(self.current.len()) {
             let current = self.current_version(ItemId(x));
             let version = self.version(current.id);
-            self.set_version(current.id, version.with_amount(current.amount, false));
+            self.set_version(current.id, version.with_amount(current.amount));
         }
     }
 
@@ -328,8 +375,10 @@ impl ProposedAmounts {
             overwritten_costs: 0,
             count: 0,
         };
-        let mut id = first_version;
-        for access in accesses {
+        // backward like the sweep, since processors prefetch memory best if it is read in one direction
+        let mut id = first_version.saturating_add(to_u32_or_max(accesses.len()));
+        for access in accesses.iter().rev() {
+            id = id.saturating_sub(1);
             let version = self.version(id);
             if version.overwritten() != NONE {
                 sums = Sums {
@@ -340,36 +389,46 @@ impl ProposedAmounts {
                     count: sums.count.saturating_add(1),
                 };
             }
-            id = id.saturating_add(1);
         }
         sums
     }
 
     /// Moves the sweep back past a write: stores the current amount in the version, and makes the version that it overwrites
     /// current, with `overwritten_amount`.
-    fn retreat(&mut self, x: ItemId, id: u32, version: Version, overwritten_amount: u64) {
+    fn retreat(
+        &mut self,
+        x: ItemId,
+        id: u32,
+        version: Version,
+        overwritten_amount: u64,
+        update: u16,
+    ) {
         let current = self.current_version(x);
-        self.set_version(
-            id,
-            version.with_amount(current.amount, current.amount < current.cost),
-        );
+        let cost = version.amount;
+        let passed = version
+            .with_amount(current.amount)
+            .with_residual(overwritten_amount < cost)
+            .with_overwriter(current.neighbor);
+        self.set_version(id, passed);
         self.set_current(
             x,
             CurrentVersion {
-                id: version.overwritten(),
-                cost: version.amount,
+                cost,
                 amount: overwritten_amount,
+                id: version.overwritten(),
+                overwriting: id,
+                neighbor: update,
             },
         );
     }
 
     /// Moves the sweep back past an update, and sets the amount of each version that it overwrites to its cost.
-    fn fill(&mut self, accesses: &[Access], first_version: u32) {
+    fn fill(&mut self, accesses: &[Access], first_version: u32, update: u16) {
         let mut id = first_version;
         for access in accesses {
             let version = self.version(id);
             if version.overwritten() != NONE {
-                self.retreat(access.item, id, version, version.amount);
+                self.retreat(access.item, id, version, version.amount, update);
             }
             id = id.saturating_add(1);
         }
@@ -377,14 +436,27 @@ impl ProposedAmounts {
 
     /// Moves the sweep back past an update, and distributes an amount without offsets over the versions that it overwrites, in
     /// proportion to their costs. The ratio is a fixed-point number in units of 2^-31.
-    fn share(&mut self, accesses: &[Access], first_version: u32, net_amount: u64, ratio: u64) {
+    fn share(
+        &mut self,
+        accesses: &[Access],
+        first_version: u32,
+        net_amount: u64,
+        ratio: u64,
+        update: u16,
+    ) {
         let mut left = net_amount;
         let mut id = first_version;
         for access in accesses {
             let version = self.version(id);
             if version.overwritten() != NONE {
                 let part = part_of(version.amount.saturating_sub(OFFSET), ratio).min(left);
-                self.retreat(access.item, id, version, part.saturating_add(OFFSET));
+                self.retreat(
+                    access.item,
+                    id,
+                    version,
+                    part.saturating_add(OFFSET),
+                    update,
+                );
                 left = left.saturating_sub(part);
             }
             id = id.saturating_add(1);
@@ -422,25 +494,50 @@ impl ProposedAmounts {
         self.set_current(
             x,
             CurrentVersion {
-                id: current.id,
                 cost: current.cost,
                 amount,
+                id: current.id,
+                overwriting: current.overwriting,
+                neighbor: current.neighbor,
             },
         );
+        self.set_residual(current.overwriting, amount < current.cost);
     }
 
-    /// Decreases the amount of a version that the sweep has passed.
-    pub fn decrease(&mut self, id: u32, less: u64) {
+    /// Sets whether the version that a version overwrites has residual capacity.
+    fn set_residual(&mut self, id: u32, has_residual: bool) {
+        let version = self.version(id);
+        self.set_version(id, version.with_residual(has_residual));
+    }
+
+    /// Returns the id of the version by which an update overwrites a version, or `NONE`.
+    fn overwriting(&self, id: u32, update: u16) -> u32 {
+        let mut found = self.first_version(update);
+        for version in self.versions_of(update) {
+            if version.overwritten() == id {
+                return found;
+            }
+            found = found.saturating_add(1);
+        }
+        NONE
+    }
+
+    /// Decreases the amount of a version that the sweep has passed, and that an update overwrites.
+    pub fn decrease(&mut self, id: u32, less: u64, overwriter: u16) {
         let version = self.version(id);
         let amount = version.amount.saturating_sub(less);
-        self.set_version(id, version.with_amount(amount, true));
+        self.set_version(id, version.with_amount(amount));
+        self.set_residual(self.overwriting(id, overwriter), true);
     }
 
-    /// Increases the amount of a version that the sweep has passed. `cost` is its own, plus the offset.
-    pub fn increase(&mut self, id: u32, more: u64, cost: u64) {
-        let version = self.version(id);
+    /// Increases the amount of the version that a version overwrites, if the sweep has passed both. `cost` is that of the
+    /// overwritten version, plus the offset.
+    pub fn increase_overwritten(&mut self, id: u32, more: u64, cost: u64) {
+        let overwritten = self.version(id).overwritten();
+        let version = self.version(overwritten);
         let amount = version.amount.saturating_add(more);
-        self.set_version(id, version.with_amount(amount, amount < cost));
+        self.set_version(overwritten, version.with_amount(amount));
+        self.set_residual(id, amount < cost);
     }
 
     /// Distributes the amounts of the versions that an update writes over those that it overwrites. Returns the excess.
@@ -448,13 +545,13 @@ impl ProposedAmounts {
         let first_version = self.first_version(update);
         let sums = self.sums(accesses, first_version);
         if sums.overwritten_costs <= sums.written_amounts {
-            self.fill(accesses, first_version);
+            self.fill(accesses, first_version, update);
             return sums.written_amounts.saturating_sub(sums.overwritten_costs);
         }
         let offsets = sums.count.saturating_mul(OFFSET);
         let net_amount = sums.written_amounts.saturating_sub(offsets);
         let ratio = ratio_of(net_amount, sums.overwritten_costs.saturating_sub(offsets));
-        self.share(accesses, first_version, net_amount, ratio);
+        self.share(accesses, first_version, net_amount, ratio, update);
         0
     }
 }

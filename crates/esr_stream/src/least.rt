@@ -4,7 +4,7 @@ ghost use Rattle.esr_history.specs.Queries.{is_committed_query, members, must, u
 ghost use Rattle.esr_order.specs.Index.{IsWholeIndexOf};
 ghost use Rattle.esr_order.specs.Scans.{accesses_in};
 ghost use Rattle.esr_bound.specs.Amounts.{among_marked, cost_by, mark_at};
-ghost use Rattle.esr_stream.specs.Passes.{IsPrefixMarked, AreForcedAndClosed, AreStates, IsLeast, amounts_sum};
+ghost use Rattle.esr_stream.specs.Passes.{IsPrefixMarked, AreForcedAndClosed, AreStates, IsLeast};
 ghost use Rattle.esr_stream.specs.Reads.{AreReadsInRange, list_at, raised, values_of};
 
 use crate::amounts::ProposedAmounts;
@@ -12,7 +12,7 @@ use crate::items::{ItemState, costs_of, fits_if, sum_of};
 use crate::pass::start;
 use crate::reads::{OFFSET, values_by_item};
 use crate::rounds::{
-    RoundEnd, copy_of, first_marks, is_prefix_marked, mark_least, marked_prefix_len, round,
+    MarkedPrefix, RoundEnd, copy_of, first_marks, is_prefix_marked, mark_least, round,
 };
 use crate::search::propose_amounts;
 use esr_history::{History, TxnId};
@@ -177,7 +177,7 @@ fn find_from<M: Metric>(
     from: usize,
     values_read: &[Vec<i64>],
     proposed: &ProposedAmounts,
-    start_states: &[ItemState],
+    start_states: Vec<ItemState>,
     worth: u64,
     needs_round: bool,
     marks: &mut [bool],
@@ -196,13 +196,13 @@ fn find_from<M: Metric>(
     requires prefix_marked { IsPrefixMarked from marks.old }
     requires start_states { (ms : List Bool) → IsPrefixMarked from ms
         → AreStates (raised (M.distance_by history.now.schedule.weights) values_read.now) history.now.schedule q.0 from ms
-        start_states.now }
+        start_states.items }
     requires forced_and_closed { AreForcedAndClosed (length history.now.schedule.opening)
         (raised (M.distance_by history.now.schedule.weights) values_read.now) history.now.schedule q.0 worth marks.old }
     ensures { IfOk result (λ found. IfSome found (λ l. IsLeast M.distance_by history.now.schedule q.0 l.distance
         (map (λ t. t.0) l.before.items))) }
 {
-    let is_shown = mark_least(
+    let found = mark_least(
         alloc,
         history,
         index,
@@ -216,17 +216,18 @@ fn find_from<M: Metric>(
         marks,
         q,
     )?;
-    if !is_shown {
+    let Some(prefix) = found else {
         return Ok(None);
-    }
+    };
+    let MarkedPrefix { len, states } = prefix;
     least_from(
         alloc,
         history,
         index,
         updates,
-        from,
+        len,
         values_read,
-        start_states,
+        &states,
         worth,
         marks,
         q,
@@ -276,95 +277,6 @@ fn checkpoint_of<M: Metric>(
     first
 }
 
-/// Continues after a round that began at the position `first`: one more round from there, and then from the first update that is
-/// not marked.
-fn find_again<M: Metric>(
-    alloc: Global,
-    history: &History<M>,
-    index: &Index,
-    updates: &[TxnId],
-    first: usize,
-    values_read: &[Vec<i64>],
-    proposed: &ProposedAmounts,
-    start_states: &[ItemState],
-    worth: u64,
-    needs_round: bool,
-    marks: &mut [bool],
-    q: TxnId,
-) -> Result<Option<Least>, AllocError>
-    requires index { IsWholeIndexOf history.now.schedule.entries index.now }
-    requires query { is_committed_query history.now.schedule q.0 ≡ true }
-    requires list_per_item { length values_read.now ≡ length history.now.schedule.opening }
-    requires reads_in_range { AreReadsInRange values_read.now }
-    requires values_read { (x : ℕ) → x < length history.now.schedule.opening → list_at values_read.now x
-        ≡ values_of (accesses_in history.now.schedule.entries q.0) x }
-    requires updates { map (λ t. t.0) updates.now ≡ updates_committed_before history.now.schedule q.0 }
-    requires mandatory_within { length (must history.now.schedule q.0) ≤ first }
-    requires within { first ≤ length updates.now }
-    requires marks { length marks.old ≡ length updates.now }
-    requires prefix_marked { IsPrefixMarked first marks.old }
-    requires start_states { (ms : List Bool) → IsPrefixMarked first ms
-        → AreStates (raised (M.distance_by history.now.schedule.weights) values_read.now) history.now.schedule q.0 first ms
-        start_states.now }
-    requires worth { worth ≡ amounts_sum start_states.now }
-    requires forced_and_closed { AreForcedAndClosed (length history.now.schedule.opening)
-        (raised (M.distance_by history.now.schedule.weights) values_read.now) history.now.schedule q.0 worth marks.old }
-    ensures { IfOk result (λ found. IfSome found (λ l. IsLeast M.distance_by history.now.schedule q.0 l.distance
-        (map (λ t. t.0) l.before.items))) }
-{
-    if !needs_round {
-        return find_from(
-            alloc,
-            history,
-            index,
-            updates,
-            first,
-            values_read,
-            proposed,
-            start_states,
-            worth,
-            false,
-            marks,
-            q,
-        );
-    }
-    let checkpoint = marked_prefix_len(marks, first);
-    let found = round(
-        alloc,
-        history,
-        index,
-        updates,
-        first,
-        checkpoint,
-        values_read,
-        proposed,
-        start_states,
-        marks,
-        q,
-    )?;
-    let Some(end) = found else {
-        return Ok(None);
-    };
-    let RoundEnd {
-        has_added,
-        checkpoint_states: states,
-    } = end;
-    find_from(
-        alloc,
-        history,
-        index,
-        updates,
-        checkpoint,
-        values_read,
-        proposed,
-        &states,
-        worth,
-        has_added,
-        marks,
-        q,
-    )
-}
-
 /// Starts from the states after the mandatory updates. Returns the least distance of the query, if the amounts prove it. Later
 /// rounds start at the checkpoint if all updates before it are marked.
 fn find_with_amounts<M: Metric>(
@@ -375,7 +287,7 @@ fn find_with_amounts<M: Metric>(
     first: usize,
     values_read: &[Vec<i64>],
     proposed: &ProposedAmounts,
-    start_states: &[ItemState],
+    start_states: Vec<ItemState>,
     marks: &mut [bool],
     q: TxnId,
 ) -> Result<Option<Least>, AllocError>
@@ -392,12 +304,12 @@ fn find_with_amounts<M: Metric>(
     requires only { (i : ℕ) → i < length marks.old → mark_at marks.old i ≡ nat_lt i first }
     requires start_states { (ms : List Bool) → IsPrefixMarked first ms
         → AreStates (raised (M.distance_by history.now.schedule.weights) values_read.now) history.now.schedule q.0 first ms
-        start_states.now }
+        start_states.items }
     ensures { IfOk result (λ found. IfSome found (λ l. IsLeast M.distance_by history.now.schedule q.0 l.distance
         (map (λ t. t.0) l.before.items))) }
 {
     let _invariant = history.log(); // brings the invariant into the proof
-    let Some(worth) = sum_of(start_states) else {
+    let Some(worth) = sum_of(&start_states) else {
         return Ok(None);
     };
     let checkpoint = checkpoint_of(history, updates, first, q);
@@ -410,7 +322,7 @@ fn find_with_amounts<M: Metric>(
         checkpoint,
         values_read,
         proposed,
-        start_states,
+        &start_states,
         marks,
         q,
     )?;
@@ -430,14 +342,14 @@ fn find_with_amounts<M: Metric>(
             checkpoint,
             values_read,
             proposed,
-            &states,
+            states,
             worth,
             has_added,
             marks,
             q,
         );
     }
-    find_again(
+    find_from(
         alloc,
         history,
         index,
@@ -496,7 +408,7 @@ fn find<M: Metric>(
         first,
         values_read,
         &proposed,
-        &start_states,
+        start_states,
         &mut marks,
         q,
     )

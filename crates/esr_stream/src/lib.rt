@@ -11,8 +11,8 @@
 //! costs at least S (`esr_bound`). The pass also marks updates that every closed set of cost S contains, and `close` adds their
 //! predecessors. If `close` adds an update, another pass follows. It keeps all marks, and it need not visit all updates again:
 //! if all updates before a position are marked, every closed set of cost S contains them, as if they were mandatory. So the
-//! pass starts from the states at that position, provided that their amounts sum to at least S. After 34 passes (`MAX_ROUNDS`
-//! and the first two) the search ends without a result. When `close` adds none and the cost of the marked set equals S, the
+//! pass starts from the states at that position, provided that their amounts sum to at least S. After 33 passes (`MAX_ROUNDS`
+//! and the first one) the search ends without a result. When `close` adds none and the cost of the marked set equals S, the
 //! marked set is the result. In each other case `least_of` returns `None`, and the caller solves the closure problem of the
 //! query (`esr_audit`).
 //!

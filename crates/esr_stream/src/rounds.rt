@@ -1,5 +1,7 @@
 //! Rounds. A round makes a pass, which marks updates that every closed set of least cost contains, and then marks the
 //! predecessors of marked updates. So the marked set is closed after each round. The rounds end when one adds no predecessor.
+//! A round starts at the first update that was not marked when the previous round started, because its pass leaves the states
+//! at that position. Rejected: all rounds from the same position, which visits the marked updates after it in each round.
 ghost use Rattle.std.specs.Prelude.{◌≡◌, ◌≤◌, ◌<◌, ℕ, Bool, List, IfOk, IfSome, length, map, nat_lt, true};
 ghost use Rattle.esr_history.specs.Queries.{must, updates_committed_before};
 ghost use Rattle.esr_order.specs.Index.{IsWholeIndexOf};
@@ -191,15 +193,23 @@ pub fn round<M: Metric>(
     let Some(kept) = found else {
         return Ok(None);
     };
-    let has_added = close(alloc, history, index, updates, from, marks, q)?;
+    let prefix = marked_prefix_len(marks, from);
+    let has_added = close(alloc, history, index, updates, prefix, marks, q)?;
     Ok(Some(RoundEnd {
         has_added,
         checkpoint_states: kept,
     }))
 }
 
-/// Makes rounds until one adds no predecessor. If it returns `true`, the marked set is closed, every closed set of cost `worth`
-/// contains it, and no closed set costs less. The caller tests whether it costs `worth`.
+/// A position before which all updates are marked, and the states there.
+#[derive(Drop)]
+pub struct MarkedPrefix {
+    pub len: usize,
+    pub states: Vec<ItemState>,
+}
+
+/// Makes rounds until one adds no predecessor, the first from the position `from`. If it returns a prefix, the marked set is
+/// closed, every closed set of cost `worth` contains it, and no closed set costs less. The caller tests whether it costs `worth`.
 ///
 /// # Errors
 ///
@@ -212,12 +222,12 @@ pub fn mark_least<M: Metric>(
     from: usize,
     values_read: &[Vec<i64>],
     proposed: &ProposedAmounts,
-    start_states: &[ItemState],
+    start_states: Vec<ItemState>,
     worth: u64,
     needs_round: bool,
     marks: &mut [bool],
     q: TxnId,
-) -> Result<bool, AllocError>
+) -> Result<Option<MarkedPrefix>, AllocError>
     requires index { IsWholeIndexOf history.now.schedule.entries index.now }
     requires list_per_item { length values_read.now ≡ length history.now.schedule.opening }
     requires reads_in_range { AreReadsInRange values_read.now }
@@ -228,46 +238,58 @@ pub fn mark_least<M: Metric>(
     requires prefix_marked { IsPrefixMarked from marks.old }
     requires start_states { (ms : List Bool) → IsPrefixMarked from ms
         → AreStates (raised (M.distance_by history.now.schedule.weights) values_read.now) history.now.schedule q.0 from ms
-        start_states.now }
+        start_states.items }
     requires forced_and_closed { AreForcedAndClosed (length history.now.schedule.opening)
         (raised (M.distance_by history.now.schedule.weights) values_read.now) history.now.schedule q.0 worth marks.old }
     ensures len { length marks.new ≡ length marks.old }
-    ensures prefix_marked { IsPrefixMarked from marks.new }
-    ensures forced_and_closed { IfOk result (λ is. is ≡ true
-        → AreForcedAndClosed (length history.now.schedule.opening) (raised (M.distance_by history.now.schedule.weights) values_read.now)
-        history.now.schedule q.0 worth marks.new) }
+    ensures within { IfOk result (λ found. IfSome found (λ prefix. prefix.len ≤ length updates.now)) }
+    ensures prefix_marked { IfOk result (λ found. IfSome found (λ prefix. IsPrefixMarked prefix.len marks.new)) }
+    ensures states { IfOk result (λ found. IfSome found (λ prefix. (ms : List Bool) → IsPrefixMarked prefix.len ms
+        → AreStates (raised (M.distance_by history.now.schedule.weights) values_read.now) history.now.schedule q.0 prefix.len ms
+        prefix.states.items)) }
+    ensures forced_and_closed { IfOk result (λ found. IfSome found (λ _.
+        AreForcedAndClosed (length history.now.schedule.opening) (raised (M.distance_by history.now.schedule.weights) values_read.now)
+        history.now.schedule q.0 worth marks.new)) }
 {
     let _invariant = history.log(); // brings the invariant into the proof
     let mut needs_round = needs_round;
-    let Some(sum) = sum_of(start_states) else {
-        return Ok(false);
-    };
-    if sum < worth {
-        return Ok(false);
-    }
+    let mut len = from;
+    let mut states = start_states;
     for _round in 0..MAX_ROUNDS {
         if !needs_round {
-            return Ok(true);
+            return Ok(Some(MarkedPrefix { len, states }));
         }
+        let Some(sum) = sum_of(&states) else {
+            return Ok(None);
+        };
+        if sum < worth {
+            return Ok(None);
+        }
+        let checkpoint = marked_prefix_len(marks, len);
         let found = round(
             alloc,
             history,
             index,
             updates,
-            from,
-            from,
+            len,
+            checkpoint,
             values_read,
             proposed,
-            start_states,
+            &states,
             marks,
             q,
         )?;
         let Some(end) = found else {
-            return Ok(false);
+            return Ok(None);
         };
         needs_round = end.has_added;
+        len = checkpoint;
+        states = end.checkpoint_states;
     }
-    Ok(!needs_round)
+    if needs_round {
+        return Ok(None);
+    }
+    Ok(Some(MarkedPrefix { len, states }))
 }
 
 /// Returns the length of the longest marked prefix, if the first `first` updates are marked.

@@ -12,16 +12,17 @@ use esr_order::{Access, Index};
 use std::alloc::{AllocError, Global};
 
 /// The number of accesses after which no further search starts, divided by the number of updates.
-const MAX_VISITS_PER_UPDATE: u64 = 400;
+const MAX_VISITS_PER_UPDATE: u64 = 250;
 
 /// The search number of an update from which no search can succeed.
 const DEAD: u32 = u32::MAX;
 
-/// A residual arc into an update, in the reversed network (`amounts`), with the id of a version: the amount of a version that the
-/// update overwrites can decrease, or the amount of a version that it writes can increase.
+/// A residual arc into an update, in the reversed network (`amounts`), with the id of a version.
 #[derive(Clone, Copy, PartialEq, Eq)]
 enum ResidualArc {
+    /// The amount of this version, which the update overwrites, can decrease.
     Decrease(u32),
+    /// The amount of a version that the update writes can increase. This version overwrites it.
     Increase(u32),
 }
 
@@ -72,8 +73,8 @@ fn cost_in<M: Metric>(metric: &M, values_read: &[Vec<i64>], accesses: &[Access],
     }
 }
 
-/// Returns the cost of a version that an update writes, plus the offset, or 0 of an opening value.
-fn cost_of<M: Metric>(
+/// Returns the cost of the version that a version overwrites, plus the offset, or 0 of an opening value.
+fn overwritten_cost<M: Metric>(
     history: &History<M>,
     index: &Index,
     updates: &[TxnId],
@@ -87,12 +88,15 @@ fn cost_of<M: Metric>(
     requires reads_in_range { AreReadsInRange values_read.now }
 {
     let _invariant = history.log(); // brings the invariant into the proof
-    let writer = amounts.version(id).writer;
+    let version = amounts.version(id);
+    let writer = version.overwritten_writer;
     let Some(txn) = updates.get(writer as usize).copied() else {
         return Ok(0);
     };
     let accesses = index.accesses_of(history, txn, buffer)?;
-    let j = id.saturating_sub(amounts.first_version(writer));
+    let j = version
+        .overwritten()
+        .saturating_sub(amounts.first_version(writer));
     Ok(cost_in(history.metric(), values_read, accesses, j as usize))
 }
 
@@ -121,43 +125,35 @@ impl SearchState {
         Ok(())
     }
 
-    /// Expands an update: follows the residual arcs from it. Returns an item whose current version has residual capacity, if the
-    /// update overwrites that version. `source` is the update whose excess is to be routed.
+    /// Expands an update: follows the residual arcs from it. Returns the id of a version of the update that overwrites a current
+    /// version with residual capacity. `source` is the update whose excess is to be routed.
     fn expand(
         &mut self,
         amounts: &ProposedAmounts,
         source: u16,
         update: u16,
-        accesses: &[Access],
-    ) -> Result<Option<ItemId>, AllocError> {
+    ) -> Result<Option<u32>, AllocError> {
+        let versions = amounts.versions_of(update);
+        self.visits_left = self.visits_left.saturating_sub(versions.len() as u64);
         let mut id = amounts.first_version(update);
-        for access in accesses {
-            self.visits_left = self.visits_left.saturating_sub(1);
-            let version = amounts.version(id);
-            let overwritten = version.overwritten();
-            if overwritten != NONE {
-                // the versions that the source itself overwrites have no residual capacity
-                if update != source {
-                    let overwritten_version = amounts.version(overwritten);
-                    if overwritten_version.writer == NOBODY || overwritten_version.writer < source {
-                        if 0 < amounts.residual(access.item) {
-                            return Ok(Some(access.item));
-                        }
-                    } else if overwritten_version.has_residual() {
-                        self.enqueue(Reached {
-                            update: overwritten_version.writer,
-                            predecessor: self.head,
-                            arc: ResidualArc::Increase(overwritten),
-                        })?;
-                    }
+        for version in versions {
+            if version.can_increase_overwritten() {
+                let writer = version.overwritten_writer;
+                if writer == NOBODY || writer < source {
+                    return Ok(Some(id));
                 }
-                if version.overwriter != NOBODY && 0 < version.amount {
-                    self.enqueue(Reached {
-                        update: version.overwriter,
-                        predecessor: self.head,
-                        arc: ResidualArc::Decrease(id),
-                    })?;
-                }
+                self.enqueue(Reached {
+                    update: writer,
+                    predecessor: self.head,
+                    arc: ResidualArc::Increase(id),
+                })?;
+            }
+            if version.overwriter != NOBODY && 0 < version.amount {
+                self.enqueue(Reached {
+                    update: version.overwriter,
+                    predecessor: self.head,
+                    arc: ResidualArc::Decrease(id),
+                })?;
             }
             id = id.saturating_add(1);
         }
@@ -192,19 +188,26 @@ impl SearchState {
             let Some(reached) = self.queue.get(self.head as usize).copied() else {
                 return Ok(None);
             };
-            let Some(txn) = updates.get(reached.update as usize).copied() else {
-                return Ok(None);
-            };
-            let accesses = index.accesses_of(history, txn, buffer)?;
-            if let Some(item) = self.expand(amounts, source, reached.update, accesses)? {
-                return Ok(Some(Target {
-                    item,
-                    overwriter: self.head,
-                }));
+            if let Some(id) = self.expand(amounts, source, reached.update)? {
+                let Some(txn) = updates.get(reached.update as usize).copied() else {
+                    return Ok(None);
+                };
+                let accesses = index.accesses_of(history, txn, buffer)?;
+                let j = id.saturating_sub(amounts.first_version(reached.update));
+                return Ok(self.target_at(accesses, j as usize));
             }
             self.skip();
         }
         Ok(None)
+    }
+
+    /// Returns the target at the item of the `j`-th of these accesses, which are those of the update that was expanded last.
+    fn target_at(&self, accesses: &[Access], j: usize) -> Option<Target> {
+        let access = accesses.get(j)?;
+        Some(Target {
+            item: access.item,
+            overwriter: self.head,
+        })
     }
 
     /// Continues the search after the update that was expanded last.
@@ -255,8 +258,17 @@ impl SearchState {
             let residual = match reached.arc {
                 ResidualArc::Decrease(id) => amounts.version(id).amount,
                 ResidualArc::Increase(id) => {
-                    let cost = cost_of(history, index, updates, values_read, amounts, id, buffer)?;
-                    cost.saturating_sub(amounts.version(id).amount)
+                    let cost = overwritten_cost(
+                        history,
+                        index,
+                        updates,
+                        values_read,
+                        amounts,
+                        id,
+                        buffer,
+                    )?;
+                    let overwritten = amounts.version(id).overwritten();
+                    cost.saturating_sub(amounts.version(overwritten).amount)
                 }
             };
             least = least.min(residual);
@@ -287,10 +299,18 @@ impl SearchState {
                 return Ok(());
             };
             match reached.arc {
-                ResidualArc::Decrease(id) => amounts.decrease(id, amount),
+                ResidualArc::Decrease(id) => amounts.decrease(id, amount, reached.update),
                 ResidualArc::Increase(id) => {
-                    let cost = cost_of(history, index, updates, values_read, amounts, id, buffer)?;
-                    amounts.increase(id, amount, cost);
+                    let cost = overwritten_cost(
+                        history,
+                        index,
+                        updates,
+                        values_read,
+                        amounts,
+                        id,
+                        buffer,
+                    )?;
+                    amounts.increase_overwritten(id, amount, cost);
                 }
             }
             i = reached.predecessor;

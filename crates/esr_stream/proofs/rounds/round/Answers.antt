@@ -35,7 +35,7 @@ returns-clause-forced_and_closed g c = λ worth low forced.
     record {
       bound = shows.bound forced;
       forced = c.in_ok-has_added.ensures.forced n worth C (shows.forced forced);
-      closed = c.in_ok-has_added.ensures.closed (λ i l. c.pass_with_checkpoint.ensures.stay i (c.requires.prefix_marked i (omega (arith, l, c.requires.mandatory_within)))) (λ i l. c.pass_with_checkpoint.ensures.stay i (c.requires.prefix_marked i l));
+      closed = c.in_ok-has_added.ensures.closed (λ i l. c.pass_with_checkpoint.ensures.stay i (c.requires.prefix_marked i (omega (arith, l, c.requires.mandatory_within)))) c.marked_prefix_len-prefix.ensures.prefix_marked;
     }
 
 pub returns-clause-checkpoint : goal.returns-clause-checkpoint

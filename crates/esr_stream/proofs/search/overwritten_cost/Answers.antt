@@ -3,7 +3,7 @@ use Rattle.esr_items.specs.Values.{IsValue}
 use Rattle.esr_order.specs.declared.accesses.Access.{Access}
 use Rattle.esr_order.proofs.Accessed.{accesses_inside}
 use Rattle.esr_stream.proofs.StepLaws.{accesses_valued}
-use Rattle.esr_stream.proofs.search.cost_of.Goals as goal
+use Rattle.esr_stream.proofs.search.overwritten_cost.Goals as goal
 
 pub cost_in-requires-clause-accesses : goal.cost_in-requires-clause-accesses
 cost_in-requires-clause-accesses g c =
