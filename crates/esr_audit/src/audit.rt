@@ -1,8 +1,8 @@
 //! Audits of one committed query, and of every committed query of a history.
 //!
 //! A finding contains the closure problem that was solved, so anyone can check its certificate. An audit fails only if the
-//! transaction is not a committed query or if an allocation fails: the limits on histories guarantee that the problem is
-//! valid.
+//! transaction is not a committed query or if an allocation fails: histories are so limited in size that no number of a
+//! problem is out of range.
 ghost use Rattle.std.specs.Prelude.{◌≡◌, ◌↔◌, false, List, None, map, All, IfOk, IfErr, IsErrOf, IsTrue, filter_map, slice_get};
 ghost use Rattle.esr_history.specs.declared.event.Entry.{Entry};
 ghost use Rattle.esr_history.specs.Legal.{continued};
@@ -69,7 +69,8 @@ pub fn certify_with_augmentation_count(
     Ok(solve(alloc, &network)?.certificate)
 }
 
-/// Returns the result of the audit of a committed query, given its relevant updates and the conflicts that order them.
+/// Returns the result of the audit of a committed query. `order` has the updates that are relevant to it and the conflicts among
+/// them. The updates of the smallest closed set of least cost are `before` the query in its nearest placement.
 fn finding_of<M: Metric>(
     alloc: Global,
     history: &History<M>,
@@ -148,8 +149,8 @@ pub fn audit_query_with_commits<M: Metric>(
     Ok(finding_of(alloc, history, order, q)?)
 }
 
-/// Like `audit_query`, for a caller that keeps an index of the whole history, so that the accesses of updates are not
-/// listed for each query.
+/// Like `audit_query`, for a caller that keeps an index of the whole history, so that the accesses of updates need not be
+/// collected for each query.
 ///
 /// # Errors
 /// Those of `audit_query`.
@@ -211,7 +212,8 @@ fn findings_of<M: Metric>(
     Ok(findings)
 }
 
-/// Returns the committed updates of a history, and the findings of its committed queries.
+/// Returns the book of a history: its committed updates in commit order, which is a serial order, and the findings of its
+/// committed queries.
 fn compute_book<M: Metric>(alloc: Global, history: &History<M>) -> Result<Book, AuditError>
     ensures book { IfOk result (IsBook M.distance_by history.now.schedule) }
     ensures err { IfErr result (λ e. e ≡ AuditError.NoMemory) }
@@ -228,8 +230,8 @@ fn compute_book<M: Metric>(alloc: Global, history: &History<M>) -> Result<Book, 
     })
 }
 
-/// Proves for its caller that the schedule of a history is sound, which is the invariant of `History`. Does nothing at run
-/// time.
+/// Proves for its caller that the schedule of a history is sound: each reply is that of the machine, the committed updates are
+/// serializable, and no limit is exceeded. This is the invariant of `History`. Does nothing at run time.
 pub fn prove_sound<M: Metric>(history: &History<M>)
     ensures { IsSound M.distance_by history.now.schedule }
 {

@@ -1,5 +1,5 @@
--- A run of blocks on one thread: at each turn one of them executes its next line. A block is the list of the lines (calls)
--- of one session of a drive.
+-- A run of sessions on one thread: at each turn one of them executes its next line. A session of a drive file (a workload
+-- script) is a list of lines, its calls, and is called a block here. The word has nothing to do with blocked lines.
 use Rattle.std.specs.Prelude.{◌≡◌, ℕ, ◌+◌, ◌<◌, ◌-◌, ◌^◌, ℤ, List, [], ◌∷◌, ◌++◌, Bool, false, ◌&&◌, Option, Some, None, cond, is_some, length, map, min, nat_lt, option_map, slice_get, slice_index_or, slice_set}
 use Rattle.std.specs.List.{fold, range_with_len}
 use Rattle.esr_items.specs.Weights.{weighted}
@@ -11,13 +11,13 @@ use Rattle.esr_history.specs.Refusals.{refusal_blocker}
 use Rattle.esr_plan.specs.declared.call.Call.{Call}
 use Rattle.esr_plan.specs.Calls.{event_by}
 
--- refused because of a lock or a limit of a transaction
+-- whether an event was refused because of a lock, an import limit or an export limit, so that a retry may succeed
 abbrev pub is_blocked : Reply → Bool
 is_blocked (Refused why) = is_some (refusal_blocker why)
 is_blocked _ = false
 
--- the progress of a block: the final reply to each line executed so far, the number of tries of the next line, and the number
--- of times that a line was blocked
+-- the progress of a block (what a contract says of a `BlockProgress`): the final reply to each line executed so far, the number of
+-- tries of the next line, and how often any of its lines was blocked
 pub record BlockProgressView : Type 0 where
   pub replies : List Reply
   pub tries : ℕ
@@ -34,7 +34,7 @@ saturated_u64 n = min n (2 ^ 64 - 1)
 abbrev pub is_retried : Reply → BlockProgressView → Bool
 is_retried reply s = is_blocked reply && nat_lt (s.tries + 1) 100
 
--- the block after a reply to its next line
+-- the progress after a reply to the next line
 abbrev pub with_reply : Reply → BlockProgressView → BlockProgressView
 with_reply reply s = record {
   replies = cond (is_retried reply s) s.replies (s.replies ++ reply ∷ []);
@@ -65,16 +65,16 @@ abbrev pub run_state : Schedule → List BlockProgressView → RunState
 run_state h all_progress = record { history = h; all_progress = all_progress }
 
 -- the state after the turn of a block with these calls and this progress; unchanged if there is no such block
-abbrev pub turn_of : List Call → ℕ → RunState → Option BlockProgressView → RunState
-turn_of calls block before None = before
-turn_of calls block before (Some s) = record {
+abbrev pub after_turn_from : List Call → ℕ → RunState → Option BlockProgressView → RunState
+after_turn_from calls block before None = before
+after_turn_from calls block before (Some s) = record {
   history = history_after (next_event calls s) before.history;
   all_progress = slice_set before.all_progress block (progress_after (next_event calls s) before.history s);
 }
 
 -- the state after one turn of a block
 abbrev pub after_turn : List (List Call) → RunState → ℕ → RunState
-after_turn blocks before block = turn_of (slice_index_or blocks block []) block before (slice_get before.all_progress block)
+after_turn blocks before block = after_turn_from (slice_index_or blocks block []) block before (slice_get before.all_progress block)
 
 -- the state before the first turn: no entry, and no progress of any block
 abbrev pub initial_run_state : List ℤ → List ℕ → List (List Call) → RunState

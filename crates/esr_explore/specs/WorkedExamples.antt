@@ -1,4 +1,5 @@
--- Worked examples: the queries of small blocks, the first of the worst runs, medians, given-up lines, and lines of the output.
+-- Worked examples: the queries that small sessions begin, which of several worst runs is taken, medians, the lines that a
+-- session gave up, and lines of the output. The definitions call a session a block.
 use Rattle.std.specs.Prelude.{◌≡◌, ℕ, List, [], ◌∷◌, ◌++◌, Some, None, codes, map, refl}
 use Rattle.std.specs.Fmt.{digits}
 use Rattle.std.proofs.Common.{Bor}
@@ -18,7 +19,8 @@ use Rattle.esr_explore.specs.Summaries.{given_up_in}
 abbrev borrowed : List ℕ → Bor (List ℕ)
 borrowed bytes = record { ref_ptr = (0, 0); now = bytes }
 
--- A block of an update, one whose last line begins a query, and one that begins two.
+-- Three sessions: one has only an update, the last line of one begins a query, and one begins two. `begun_at b k name` is line k
+-- of session b.
 queries_found :
     all_queries (
     (call.Begin (borrowed (codes "u")) kind.Update 9 ∷ call.Commit (record { name = borrowed (codes "u"); begin = Some 0 }) ∷ [])
@@ -46,8 +48,8 @@ median_of_four = refl
 median_of_three : median (8 ∷ 8 ∷ 2 ∷ []) ≡ 8
 median_of_three = refl
 
--- a block of three lines, with the final reply to each: one whose final reply is a block was given up, one that was refused for
--- another reason was not
+-- a session of three lines, with the final reply to each: the line that was still blocked at its last try was given up, the one
+-- that was refused for another reason was not
 lines_given_up : given_up_in (record {
   replies = Begun (txn 1) ∷ Refused (BlockedByLock (txn 2)) ∷ Refused NoSuchItem ∷ [];
   tries = 0;
@@ -59,9 +61,10 @@ heading_with_total : heading 20 (Some 61108047000) ≡ codes "interleavings 20 o
 unfolding digits
 heading_with_total = refl
 
-heading_without_total : heading 7 None ≡ codes "interleavings 7 of more than 1000000000000000000\n"
+-- more interleavings than 10^18 are not counted
+heading_with_huge_total : heading 7 None ≡ codes "interleavings 7 of more than 1000000000000000000\n"
 unfolding digits
-heading_without_total = refl
+heading_with_huge_total = refl
 
 max_and_median_of_four : max_and_median_text (codes " blocked") (5 ∷ 1 ∷ 9 ∷ 3 ∷ []) ≡ codes " blocked max 9 median 3"
 unfolding digits

@@ -3,7 +3,7 @@ ghost use Rattle.std.specs.Prelude.{◌≡◌, ◌↔◌, IfOk, IsErrOf, false, 
 ghost use Rattle.esr_history.specs.Queries.{is_committed_query};
 ghost use Rattle.esr_order.specs.Index.{IsWholeIndexOf};
 ghost use Rattle.esr_audit.specs.Findings.{IsFindingOf, seen_summary, summary_of};
-ghost use Rattle.esr_stream.specs.Passes.{IsLeast};
+ghost use Rattle.esr_stream.specs.Passes.{IsNearestPlacement};
 ghost use Rattle.esr_least.specs.Audits.{audit_fields, IsStableAudit, IsSummaryOfFinding};
 
 use esr_audit::{AuditError, Finding, Summary, TxnList, audit_query_with_index};
@@ -47,7 +47,7 @@ impl From<QueryAudit> for Summary {
 
 /// Returns the audit of a query with this least distance and set.
 fn of_least<M: Metric>(history: &History<M>, q: TxnId, least: Least) -> QueryAudit
-    requires { IsLeast M.distance_by history.now.schedule q.0 least.distance (map (λ t. t.0) least.before.items) }
+    requires { IsNearestPlacement M.distance_by history.now.schedule q.0 least.distance (map (λ t. t.0) least.before.items) }
     ensures { audit_fields result ≡ summary_of M.distance_by history.now.schedule q.0 }
 {
     QueryAudit {

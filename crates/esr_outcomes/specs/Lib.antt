@@ -1,4 +1,5 @@
--- The kinds and outcomes of transactions, the distances of queries, and the values after accesses.
+-- `Outcomes`: whether a transaction is an update or a query, whether it is active, committed or aborted, and how far off a query
+-- was. `ValuesAfter`: the value of each item after the accesses of some updates.
 
 pub mod Outcomes
 pub mod ValuesAfter

@@ -11,7 +11,7 @@ use Rattle.esr_order.specs.Scans.{accesses_in}
 use Rattle.esr_order.proofs.ConflictOrder.{in_order}
 use Rattle.esr_bound.specs.Amounts.{mark_at, among_marked, left_by, left_by_all}
 use Rattle.esr_bound.proofs.LowerBound.{left_with, left_without, left_all}
-use Rattle.esr_stream.specs.Passes.{ItemState, state_at, written_in, IsPrefixMarked, IsRowApplied}
+use Rattle.esr_stream.specs.Passes.{ItemState, state_at, written_in, IsPrefixMarked, IsUpdateApplied}
 use Rattle.esr_stream.proofs.MarkLaws.{mark_is, position_marked}
 use Rattle.esr_stream.proofs.StepLaws.{written_is}
 
@@ -20,7 +20,7 @@ module _ (d : DistanceFunction) (h : Schedule) (q : ℕ) (legal : IsLegal d h) (
   S = among_marked (updates_committed_before h q) marks
 
   pub cost_more : (C : ℕ → ℤ → ℕ) (k x : ℕ) (old new : List ItemState) (row : List Access) (marked : Bool) → k < length (updates_committed_before h q) → row ≡ accesses_in h.entries (nth (updates_committed_before h q) k) → marked ≡ mark_at marks k → x < length old
-      → (marked ≡ true → (before : ℕ) × (after : ℕ) × IsRowApplied C true row old new before after) → (marked ≡ false → new ≡ old)
+      → (marked ≡ true → (before : ℕ) × (after : ℕ) × IsUpdateApplied C true row old new before after) → (marked ≡ false → new ≡ old)
       → (state_at old x).cost ≡ C x (left_by h q (among_marked (updates_committed_before h q) marks) k x) → (state_at new x).cost ≡ C x (left_by h q (among_marked (updates_committed_before h q) marks) (k + 1) x)
   cost_more C k x old new row marked inside is_row is known member other so_far = elim (cases_Bool marked) [
     | inl m ↦

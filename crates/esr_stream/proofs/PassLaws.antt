@@ -12,7 +12,7 @@ use Rattle.esr_order.specs.Scans.{accesses_in}
 use Rattle.esr_order.proofs.ConflictOrder.{in_order}
 use Rattle.esr_bound.specs.Amounts.{total, mark_at, left_by, left_by_all, HasSlack, Shows}
 use Rattle.esr_bound.proofs.LowerBound.{all_more, left_all, law_of_updates, law_of_end}
-use Rattle.esr_stream.specs.Passes.{ItemState, has_slack_at, amount_at, amounts_sum, IsPrefixMarked, AreStates, IsRowApplied, IsPassInvariant, StayMarked}
+use Rattle.esr_stream.specs.Passes.{ItemState, has_slack_at, amount_at, amounts_sum, IsPrefixMarked, AreStates, IsUpdateApplied, IsPassInvariant, StayMarked}
 use Rattle.esr_stream.proofs.StepLaws.{total_states, states_after, step_made, slack_is}
 
 pub mark_same : (marks : List Bool) (k : ℕ) (marked : Bool) → k < length marks → mark_at (set marks k marked) k ≡ marked
@@ -37,7 +37,7 @@ module _ (d : DistanceFunction) (h : Schedule) (q : ℕ) (legal : IsLegal d h) (
 
   -- an update that the query must see
   pub first_more : (k : ℕ) (marks : List Bool) (row : List Access) (old new : List ItemState) (before after : ℕ) → k < length (updates_committed_before h q) → AreStates C h q k marks old → row ≡ accesses_in h.entries (nth (updates_committed_before h q) k)
-      → IsRowApplied C true row old new before after → mark_at marks k ≡ true → AreStates C h q (k + 1) marks new
+      → IsUpdateApplied C true row old new before after → mark_at marks k ≡ true → AreStates C h q (k + 1) marks new
   first_more k marks row old new before after inside is is_row put mark =
       states_after h q C k true marks marks row old new before after is is_row (λ x. next k x inside) put (λ i l. refl) mark
 
@@ -46,7 +46,7 @@ module _ (d : DistanceFunction) (h : Schedule) (q : ℕ) (legal : IsLegal d h) (
       (so_far : IsPassInvariant (length h.opening) C h q worth k seeds marks old) (inside : k < length (updates_committed_before h q)) (sized : k < length marks)
       (is_row : row ≡ accesses_in h.entries (nth (updates_committed_before h q) k)) (items : AllByRecursion (λ (a : Access). a.item.0 < length h.opening) row)
       (why : marked ≡ true → (mark_at marks k ≡ true) ⊎ (list_any (λ (a : Access). a.writes && has_slack_at old a.item.0) row ≡ true))
-      (put : IsRowApplied C marked row old new before after) (keeps : before ≤ after) where
+      (put : IsUpdateApplied C marked row old new before after) (keeps : before ≤ after) where
     abbrev marks' : List Bool
     marks' = set marks k marked
 

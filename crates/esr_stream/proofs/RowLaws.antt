@@ -13,15 +13,15 @@ use Rattle.esr_items.specs.Values.{IsValue}
 use Rattle.std.proofs.lemmas.List.Elements.{recursion_from_All}
 use Rattle.esr_history.proofs.Membership.{each_in, each_at}
 use Rattle.esr_stream.specs.Reads.{distance_sum}
-use Rattle.esr_stream.specs.Passes.{ItemState, no_state, state_at, is_write, written_in, IsRowApplied, amounts_sum}
+use Rattle.esr_stream.specs.Passes.{ItemState, no_state, state_at, is_write, written_in, IsUpdateApplied, amounts_sum}
 
-pub row_start : (C : ℕ → ℤ → ℕ) (marked : Bool) (states : List ItemState) → IsRowApplied C marked [] states states 0 0
+pub row_start : (C : ℕ → ℤ → ℕ) (marked : Bool) (states : List ItemState) → IsUpdateApplied C marked [] states states 0 0
 row_start C marked states = record {
   len = refl;
   others = λ x e. refl;
   cost = λ x v l e. e;
   under = λ x l w. absurd (w refl);
-  covered_is = λ x l w. absurd (w refl);
+  covered_if_marked = λ x l w. absurd (w refl);
   sum = refl;
 }
 
@@ -41,15 +41,15 @@ written_one x row a e =
     written_more x row a
     ∙ ap (λ b. written_in x row ++ map (λ (c : Access). c.value) (cond b (a ∷ []) [])) e
 
-module _ (C : ℕ → ℤ → ℕ) (marked : Bool) (row : List Access) (a : Access) (old new : List ItemState) (before after : ℕ) (so_far : IsRowApplied C marked row old new before after) where
-  pub row_read : a.writes ≡ false → IsRowApplied C marked (row ++ a ∷ []) old new before after
+module _ (C : ℕ → ℤ → ℕ) (marked : Bool) (row : List Access) (a : Access) (old new : List ItemState) (before after : ℕ) (so_far : IsUpdateApplied C marked row old new before after) where
+  pub row_read : a.writes ≡ false → IsUpdateApplied C marked (row ++ a ∷ []) old new before after
   row_read reads =
       let same : (x : ℕ) → written_in x (row ++ a ∷ []) ≡ written_in x row = λ x. written_none x row a (ap (λ b. b && eqb a.item.0 x) reads) in record {
         len = so_far.len;
         others = λ x e. so_far.others x (sym (same x) ∙ e);
         cost = λ x v l e. so_far.cost x v l e ∙ ap (λ vs. C x (last_value v vs)) (sym (same x));
         under = λ x l w. so_far.under x l (λ e. w (same x ∙ e));
-        covered_is = λ x l w. so_far.covered_is x l (λ e. w (same x ∙ e));
+        covered_if_marked = λ x l w. so_far.covered_if_marked x l (λ e. w (same x ∙ e));
         sum = so_far.sum;
       }
 
@@ -87,7 +87,7 @@ module _ (C : ℕ → ℤ → ℕ) (marked : Bool) (row : List Access) (a : Acce
     each : (P : ℕ → Type 0) → P a.item.0 → ((x : ℕ) → x ≢ a.item.0 → P x) → (x : ℕ) → P x
     each P here rest x = elim (cases_eq x a.item.0) [ inl e ↦ subst P (sym e) here | inr ne ↦ rest x ne ]
 
-    pub row_write : IsRowApplied C marked (row ++ a ∷ []) old next (before + (state_at new a.item.0).amount) (after + amount)
+    pub row_write : IsUpdateApplied C marked (row ++ a ∷ []) old next (before + (state_at new a.item.0).amount) (after + amount)
     row_write = record {
       len = ap (λ states. length states) put ∙ length-set new a.item.0 item ∙ so_far.len;
       others = each (λ x. written_in x (row ++ a ∷ []) ≡ [] → state_at next x ≡ state_at old x)
@@ -100,9 +100,9 @@ module _ (C : ℕ → ℤ → ℕ) (marked : Bool) (row : List Access) (a : Acce
       under = each (λ x. x < length old → (written_in x (row ++ a ∷ []) ≡ [] → ⊥) → (state_at next x).amount ≤ (state_at next x).cost)
           (λ l w. let e = ap (λ (i : ItemState). i.cost) own in let f = ap (λ (i : ItemState). i.amount) own in omega (arith, e, f, low))
           (λ x ne l w. let u = so_far.under x l (λ e. w (same x ne ∙ e)) in let e = ap (λ (i : ItemState). i.cost) (other x ne) in let f = ap (λ (i : ItemState). i.amount) (other x ne) in omega (arith, e, f, u));
-      covered_is = each (λ x. x < length old → (written_in x (row ++ a ∷ []) ≡ [] → ⊥) → (state_at next x).covered ≡ marked)
+      covered_if_marked = each (λ x. x < length old → (written_in x (row ++ a ∷ []) ≡ [] → ⊥) → (state_at next x).covered ≡ marked)
           (λ l w. ap (λ (i : ItemState). i.covered) own)
-          (λ x ne l w. ap (λ (i : ItemState). i.covered) (other x ne) ∙ so_far.covered_is x l (λ e. w (same x ne ∙ e)));
+          (λ x ne l w. ap (λ (i : ItemState). i.covered) (other x ne) ∙ so_far.covered_if_marked x l (λ e. w (same x ne ∙ e)));
       sum =
           let s = sum_by-set (λ (i : ItemState). i.amount) new a.item.0 item no_state there in
           let e = ap amounts_sum put in

@@ -21,7 +21,7 @@ use Rattle.esr_order.specs.Chains.{nth}
 use Rattle.esr_bound.specs.Amounts.{total, mark_at, Wrote, left_by_all, AreCovered, HasSlack, IsStep}
 use Rattle.esr_history.proofs.LastWriter.{empty_or_not}
 use Rattle.esr_history.proofs.Membership.{In, In-any, In-of_filter, each_in, each_at}
-use Rattle.esr_stream.specs.Passes.{ItemState, state_at, is_write, written_in, has_slack_at, amount_at, as_covered, IsPrefixMarked, AreStates, AreOpening, IsRowApplied}
+use Rattle.esr_stream.specs.Passes.{ItemState, state_at, is_write, written_in, has_slack_at, amount_at, as_covered, IsPrefixMarked, AreStates, AreOpening, IsUpdateApplied}
 
 map_if : {X : Type 0} (f : X → ℤ) (b : Bool) (x : X) (xs : List X) → map f (cond b (x ∷ xs) xs) ≡ cond b (f x ∷ map f xs) (map f xs)
 map_if f true x xs = refl
@@ -67,7 +67,7 @@ total_states f states = from states 0 (λ x. let e : 0 + x ≡ x = omega arith i
 module _ (h : Schedule) (q : ℕ) (C : ℕ → ℤ → ℕ) (k : ℕ) (marked : Bool) (marks marks' : List Bool) (row : List Access) (old new : List ItemState) (before after : ℕ)
     (so_far : AreStates C h q k marks old) (is_row : row ≡ accesses_in h.entries (nth (updates_committed_before h q) k))
     (next : (x : ℕ) → left_by_all h q (k + 1) x ≡ last_value (left_by_all h q k x) (values_by h x (nth (updates_committed_before h q) k)))
-    (put : IsRowApplied C marked row old new before after)
+    (put : IsUpdateApplied C marked row old new before after)
     (earlier : (i : ℕ) → i < k → mark_at marks' i ≡ mark_at marks i) where
   abbrev n : ℕ
   n = length h.opening
@@ -104,7 +104,7 @@ module _ (h : Schedule) (q : ℕ) (C : ℕ → ℤ → ℕ) (k : ℕ) (marked : 
                   ]
             ]
         | inr some ↦
-            let m : mark_at marks' k ≡ true = marked_is ∙ sym (put.covered_is x (inside x l) (λ e. some (sym (wrote x) ∙ e))) ∙ w in
+            let m : mark_at marks' k ≡ true = marked_is ∙ sym (put.covered_if_marked x (inside x l) (λ e. some (sym (wrote x) ∙ e))) ∙ w in
             elim (cases_eq i k) [
               | inl e ↦ inl (ap (mark_at marks') e ∙ m)
               | inr ne ↦ inr (k, omega arith, omega arith, some, m)

@@ -1,5 +1,10 @@
--- The state of each item along the updates of a query, the effect of one update on it, the invariant of a pass, and its
--- result.
+-- A pass visits the updates that committed before a query, once, in commit order. It marks updates that every closed set of
+-- least cost contains. The cost of a version of an item is the distance of the query's reads of the item from it. Each current
+-- version has an amount, at most its cost, and no update decreases the sum of the amounts. So this sum at the start, the
+-- `worth`, is a lower bound on the cost of every closed set (`esr_bound`).
+--
+-- These are the state of each item along a pass, the effect of one update on it, the invariant of a pass, and its result. In
+-- all of them value v of item x costs C x v, and there are n items.
 use Rattle.std.specs.Prelude.{◌≡◌, ◌≤◌, ◌<◌, ◌+◌, ◌&&◌, ◌==◌, ℕ, ℤ, Bool, true, false, nat_lt, List, [], length, filter, map, sum_by, slice_index_or}
 use Rattle.esr_items.specs.Values.{value_at}
 use Rattle.esr_history.specs.Events.{last_value}
@@ -23,8 +28,9 @@ is_write x a = a.writes && (a.item.0 == x)
 
 -- the values that accesses write to item x, in order
 abbrev pub written_in : ℕ → List Access → List ℤ
-written_in x row = map (λ a. a.value) (filter (is_write x) row)
+written_in x accesses = map (λ a. a.value) (filter (is_write x) accesses)
 
+-- the amount of the current version of item x, and the sums of the amounts and of the costs of the current versions
 abbrev pub amount_at : List ItemState → ℕ → ℕ
 amount_at states x = (state_at states x).amount
 
@@ -38,25 +44,26 @@ costs_sum states = sum_by (λ i. i.cost) states
 abbrev pub as_covered : ItemState → ItemState
 as_covered s = record { cost = s.cost; amount = s.amount; covered = true }
 
--- whether the amount of the version of item x is below its cost, and the writers of x are covered by marks
+-- whether the next writer of item x has to be marked: the amount of the current version of x is below the cost of this version,
+-- and each earlier writer of x is marked, or a later one is (`covered`)
 abbrev pub has_slack_at : List ItemState → ℕ → Bool
 has_slack_at states x = (state_at states x).covered && nat_lt (state_at states x).amount (state_at states x).cost
 
--- the states after the first k of the updates committed before q, if version v of item x costs C x v
+-- the states after the first k of the updates committed before q
 pub record AreStates (C : ℕ → ℤ → ℕ) (h : Schedule) (q k : ℕ) (marks : List Bool) (states : List ItemState) : Type 0 where
   pub len : length states ≡ length h.opening
   pub cost : (x : ℕ) → x < length h.opening → (state_at states x).cost ≡ C x (left_by_all h q k x)
   pub under : (x : ℕ) → x < length h.opening → amount_at states x ≤ (state_at states x).cost
   pub covered : (x : ℕ) → x < length h.opening → (state_at states x).covered ≡ true → AreCovered h q k marks x
 
--- The effect of the accesses of one update, marked or not, on the states. `after` less `before` is the change of the sum of
--- the amounts.
-pub record IsRowApplied (C : ℕ → ℤ → ℕ) (marked : Bool) (row : List Access) (old new : List ItemState) (before after : ℕ) : Type 0 where
+-- The effect of the accesses of one update, marked or not, on the states. `after` minus `before` is the change of the sum of
+-- the amounts: they are the sums over the items that the update writes.
+pub record IsUpdateApplied (C : ℕ → ℤ → ℕ) (marked : Bool) (accesses : List Access) (old new : List ItemState) (before after : ℕ) : Type 0 where
   pub len : length new ≡ length old
-  pub others : (x : ℕ) → written_in x row ≡ [] → state_at new x ≡ state_at old x
-  pub cost : (x : ℕ) (v : ℤ) → x < length old → (state_at old x).cost ≡ C x v → (state_at new x).cost ≡ C x (last_value v (written_in x row))
-  pub under : (x : ℕ) → x < length old → (written_in x row ≡ [] → ⊥) → amount_at new x ≤ (state_at new x).cost
-  pub covered_is : (x : ℕ) → x < length old → (written_in x row ≡ [] → ⊥) → (state_at new x).covered ≡ marked
+  pub others : (x : ℕ) → written_in x accesses ≡ [] → state_at new x ≡ state_at old x
+  pub cost : (x : ℕ) (v : ℤ) → x < length old → (state_at old x).cost ≡ C x v → (state_at new x).cost ≡ C x (last_value v (written_in x accesses))
+  pub under : (x : ℕ) → x < length old → (written_in x accesses ≡ [] → ⊥) → amount_at new x ≤ (state_at new x).cost
+  pub covered_if_marked : (x : ℕ) → x < length old → (written_in x accesses ≡ [] → ⊥) → (state_at new x).covered ≡ marked
   pub sum : amounts_sum new + before ≡ amounts_sum old + after
 
 -- the states of the first n items before all updates
@@ -65,8 +72,9 @@ pub record AreOpening (C : ℕ → ℤ → ℕ) (opening : List ℤ) (n : ℕ) (
   pub cost : (x : ℕ) → x < n → (state_at states x).cost ≡ C x (value_at opening x)
   pub under : (x : ℕ) → x < n → amount_at states x ≤ (state_at states x).cost
 
--- The invariant of a pass that started with the marks `seeds`, after the first k updates: the states are those after k updates, later marks are
--- those of the seeds, and for each closed set with all seeds, the versions that it leaves carry the worth.
+-- The invariant of a pass that started with the marks `seeds`, after the first k updates: the states are those after k updates,
+-- the updates not yet visited have the marks of the seeds, and for each closed set with all seeds, the amounts of the versions
+-- that are current after its members sum to at least the worth (`Carries`).
 pub record IsPassInvariant (n : ℕ) (C : ℕ → ℤ → ℕ) (h : Schedule) (q worth k : ℕ) (seeds marks : List Bool) (states_after : List ItemState) : Type 0 where
   pub states : AreStates C h q k marks states_after
   pub later : (j : ℕ) → k ≤ j → mark_at marks j ≡ mark_at seeds j
@@ -87,6 +95,7 @@ IsPrefixMarked k marks = (i : ℕ) → i < k → mark_at marks i ≡ true
 abbrev pub StayMarked : List Bool → List Bool → Type 0
 StayMarked old new = (i : ℕ) → mark_at old i ≡ true → mark_at new i ≡ true
 
--- the distance of a query, and the updates before it in its nearest placement, in commit order
-abbrev pub IsLeast : DistanceFunction → Schedule → ℕ → ℕ → List ℕ → Type 0
-IsLeast d h q distance before = (distance ≡ least_distance d h q) × (before ≡ nearest_placement d h q)
+-- whether `distance` is the least distance of a query, and `before` are the updates before it in its nearest placement, in
+-- commit order
+abbrev pub IsNearestPlacement : DistanceFunction → Schedule → ℕ → ℕ → List ℕ → Type 0
+IsNearestPlacement d h q distance before = (distance ≡ least_distance d h q) × (before ≡ nearest_placement d h q)

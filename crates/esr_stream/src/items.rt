@@ -3,7 +3,7 @@ ghost use Rattle.std.specs.Prelude.{◌≡◌, ◌≤◌, ◌<◌, ◌&&◌, ◌
 ghost use Rattle.std.specs.List.{list_any};
 ghost use Rattle.esr_items.specs.Values.{IsValue};
 ghost use Rattle.esr_order.specs.declared.accesses.Access.{Access as AccessValue};
-ghost use Rattle.esr_stream.specs.Passes.{AreStates, IsRowApplied, ItemState as StateValue, amounts_sum, as_covered, costs_sum, has_slack_at};
+ghost use Rattle.esr_stream.specs.Passes.{AreStates, IsUpdateApplied, ItemState as StateValue, amounts_sum, as_covered, costs_sum, has_slack_at};
 ghost use Rattle.esr_stream.specs.Reads.{AreReadsInRange, raised};
 
 use crate::amounts::Version;
@@ -118,8 +118,8 @@ fn apply_write<M: Metric>(
     requires value { IsValue access.value }
     requires writes { access.writes ≡ true }
     ensures { (row : List AccessValue) (old : List StateValue) (before after : ℕ)
-        → IsRowApplied (raised (M.distance_by (M.weights metric.now)) values_read.now) marked row old states.old before after
-        → IsRowApplied (raised (M.distance_by (M.weights metric.now)) values_read.now) marked (row ++ access ∷ []) old states.new
+        → IsUpdateApplied (raised (M.distance_by (M.weights metric.now)) values_read.now) marked row old states.old before after
+        → IsUpdateApplied (raised (M.distance_by (M.weights metric.now)) values_read.now) marked (row ++ access ∷ []) old states.new
         (before + result.before) (after + result.after) }
 {
     let x = access.item.0 as usize;
@@ -153,7 +153,7 @@ fn apply_row<M: Metric>(
     requires values { All (λ a. IsValue a.value) row.now }
     ensures len { length states.new ≡ length states.old }
     ensures row { IfSome result (λ keeps. (before : ℕ) × (after : ℕ)
-        × IsRowApplied (raised (M.distance_by (M.weights metric.now)) values_read.now) marked row.now states.old states.new before after
+        × IsUpdateApplied (raised (M.distance_by (M.weights metric.now)) values_read.now) marked row.now states.old states.new before after
         × (keeps ≡ true → before ≤ after)) }
 {
     let mut before = 0u64;
@@ -184,7 +184,7 @@ pub fn fits<M: Metric>(
     requires values { All (λ a. IsValue a.value) row.now }
     ensures len { length states.new ≡ length states.old }
     ensures row { result ≡ true → (before : ℕ) × (after : ℕ)
-        × IsRowApplied (raised (M.distance_by (M.weights metric.now)) values_read.now) true row.now states.old states.new before after }
+        × IsUpdateApplied (raised (M.distance_by (M.weights metric.now)) values_read.now) true row.now states.old states.new before after }
 {
     match apply_row(metric, values_read, states, row, amounts, true) {
         Some(_) => true,
@@ -207,7 +207,7 @@ pub fn steps<M: Metric>(
     requires values { All (λ a. IsValue a.value) row.now }
     ensures len { length states.new ≡ length states.old }
     ensures row { result ≡ true → (before : ℕ) × (after : ℕ)
-        × IsRowApplied (raised (M.distance_by (M.weights metric.now)) values_read.now) marked row.now states.old states.new before after
+        × IsUpdateApplied (raised (M.distance_by (M.weights metric.now)) values_read.now) marked row.now states.old states.new before after
         × (before ≤ after) }
 {
     match apply_row(metric, values_read, states, row, amounts, marked) {
@@ -230,7 +230,7 @@ pub fn fits_if<M: Metric>(
     requires values { All (λ a. IsValue a.value) row.now }
     ensures len { length states.new ≡ length states.old }
     ensures member { result ≡ true → marked ≡ true → (before : ℕ) × (after : ℕ)
-        × IsRowApplied (raised (M.distance_by (M.weights metric.now)) values_read.now) true row.now states.old states.new before after }
+        × IsUpdateApplied (raised (M.distance_by (M.weights metric.now)) values_read.now) true row.now states.old states.new before after }
     ensures other { marked ≡ false → states.new ≡ states.old }
 {
     if marked {

@@ -4,7 +4,7 @@ ghost use Rattle.esr_history.specs.Queries.{is_committed_query, members, must, u
 ghost use Rattle.esr_order.specs.Index.{IsWholeIndexOf};
 ghost use Rattle.esr_order.specs.Scans.{accesses_in};
 ghost use Rattle.esr_bound.specs.Amounts.{among_marked, cost_by, mark_at};
-ghost use Rattle.esr_stream.specs.Passes.{IsPrefixMarked, AreForcedAndClosed, AreStates, IsLeast};
+ghost use Rattle.esr_stream.specs.Passes.{IsPrefixMarked, AreForcedAndClosed, AreStates, IsNearestPlacement};
 ghost use Rattle.esr_stream.specs.Reads.{AreReadsInRange, list_at, raised, values_of};
 
 use crate::amounts::ProposedAmounts;
@@ -138,7 +138,7 @@ fn least_from<M: Metric>(
         start_states.now }
     requires forced_and_closed { AreForcedAndClosed (length history.now.schedule.opening)
         (raised (M.distance_by history.now.schedule.weights) values_read.now) history.now.schedule q.0 worth marks.now }
-    ensures { IfOk result (λ found. IfSome found (λ l. IsLeast M.distance_by history.now.schedule q.0 l.distance
+    ensures { IfOk result (λ found. IfSome found (λ l. IsNearestPlacement M.distance_by history.now.schedule q.0 l.distance
         (map (λ t. t.0) l.before.items))) }
 {
     let _invariant = history.log(); // brings the invariant into the proof
@@ -199,7 +199,7 @@ fn find_from<M: Metric>(
         start_states.items }
     requires forced_and_closed { AreForcedAndClosed (length history.now.schedule.opening)
         (raised (M.distance_by history.now.schedule.weights) values_read.now) history.now.schedule q.0 worth marks.old }
-    ensures { IfOk result (λ found. IfSome found (λ l. IsLeast M.distance_by history.now.schedule q.0 l.distance
+    ensures { IfOk result (λ found. IfSome found (λ l. IsNearestPlacement M.distance_by history.now.schedule q.0 l.distance
         (map (λ t. t.0) l.before.items))) }
 {
     let found = mark_least(
@@ -305,7 +305,7 @@ fn find_with_amounts<M: Metric>(
     requires start_states { (ms : List Bool) → IsPrefixMarked first ms
         → AreStates (raised (M.distance_by history.now.schedule.weights) values_read.now) history.now.schedule q.0 first ms
         start_states.items }
-    ensures { IfOk result (λ found. IfSome found (λ l. IsLeast M.distance_by history.now.schedule q.0 l.distance
+    ensures { IfOk result (λ found. IfSome found (λ l. IsNearestPlacement M.distance_by history.now.schedule q.0 l.distance
         (map (λ t. t.0) l.before.items))) }
 {
     let _invariant = history.log(); // brings the invariant into the proof
@@ -380,7 +380,7 @@ fn find<M: Metric>(
     requires values_read { (x : ℕ) → x < length history.now.schedule.opening → list_at values_read.now x
         ≡ values_of (accesses_in history.now.schedule.entries q.0) x }
     requires updates { map (λ t. t.0) updates.now ≡ updates_committed_before history.now.schedule q.0 }
-    ensures { IfOk result (λ found. IfSome found (λ l. IsLeast M.distance_by history.now.schedule q.0 l.distance
+    ensures { IfOk result (λ found. IfSome found (λ l. IsNearestPlacement M.distance_by history.now.schedule q.0 l.distance
         (map (λ t. t.0) l.before.items))) }
 {
     let _invariant = history.log(); // brings the invariant into the proof
@@ -427,7 +427,7 @@ pub fn least_of<M: Metric>(
     q: TxnId,
 ) -> Result<Option<Least>, AllocError>
     requires { IsWholeIndexOf history.now.schedule.entries index.now }
-    ensures { IfOk result (λ found. IfSome found (λ l. IsLeast M.distance_by history.now.schedule q.0 l.distance
+    ensures { IfOk result (λ found. IfSome found (λ l. IsNearestPlacement M.distance_by history.now.schedule q.0 l.distance
         (map (λ t. t.0) l.before.items))) }
 {
     let _invariant = history.log(); // brings the invariant into the proof

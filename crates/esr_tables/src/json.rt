@@ -1,5 +1,5 @@
-//! A ledger as JSON, an object on each line. Amounts are numbers, up to 10^18, which a double does not hold exactly. No
-//! word needs an escape: names are letters, digits and `_`.
+//! A ledger as JSON Lines: an object on each line, for one transaction and its charges. Amounts are numbers, up to 10^18, which
+//! a double does not hold exactly. No string needs an escape: names are letters, digits and `_`.
 
 use crate::ledger_columns::{LEDGER_COLUMNS, content_of};
 use crate::rows::Row;
@@ -8,17 +8,17 @@ use crate::words::push_member;
 use esr_report::{Names, name_of_transaction};
 use std::alloc::{AllocError, Global};
 
-/// Appends the object of a row, with its name and lines.
+/// Appends the object of a transaction, with its name and the first and last of its lines in the script.
 fn push_row(out: &mut String, name: &str, row: &Row, span: LineSpan) -> Result<(), AllocError> {
-    let mut before = "{";
+    let mut separator = "{";
     for (column, field, _) in LEDGER_COLUMNS.iter() {
-        push_member(out, before, field, content_of(*column, name, row, span))?;
-        before = ",";
+        push_member(out, separator, field, content_of(*column, name, row, span))?;
+        separator = ",";
     }
     out.push_str("}\n")
 }
 
-/// Returns a ledger as JSON.
+/// Returns a ledger as JSON Lines.
 pub fn ledger_json(
     alloc: Global,
     transactions: &Names,

@@ -10,7 +10,7 @@ use Rattle.esr_order.proofs.Gathering.{no_txn}
 use Rattle.esr_order.proofs.BackwardSearch.{number_at}
 use Rattle.esr_bound.specs.Amounts.{among_marked, cost_by, mark_at, total}
 use Rattle.esr_stream.specs.Reads.{raised}
-use Rattle.esr_stream.specs.Passes.{ItemState, IsRowApplied, costs_sum, state_at}
+use Rattle.esr_stream.specs.Passes.{ItemState, IsUpdateApplied, costs_sum, state_at}
 use Rattle.esr_stream.proofs.CostLaws.{total_same}
 use Rattle.esr_stream.proofs.StepLaws.{accesses_valued, total_states}
 use Rattle.esr_stream.proofs.MemberLaws.{cost_more, cost_start, at_end}
@@ -57,7 +57,7 @@ loop-i-preserved g c =
       len = c.fits_if-fit.ensures.len ∙ c.loop-i.invariant.len;
       costs = λ x l.
           cost_more d h q legal marks C i x c.loop-i.states new row (mark_at marks i) inside is_row refl (omega (arith, l, c.loop-i.invariant.len))
-          (λ m. let put = c.fits_if-fit.ensures.member c.if-not-fit.false m in (put.0, put.1, subst (λ w. IsRowApplied (raised (g.M.Metric.distance_by w) c.args.values_read.now) true row c.loop-i.states new put.0 put.1) c.metric.ensures put.2))
+          (λ m. let put = c.fits_if-fit.ensures.member c.if-not-fit.false m in (put.0, put.1, subst (λ w. IsUpdateApplied (raised (g.M.Metric.distance_by w) c.args.values_read.now) true row c.loop-i.states new put.0 put.1) c.metric.ensures put.2))
           c.fits_if-fit.ensures.other
           (c.loop-i.invariant.costs x l);
     }

@@ -10,7 +10,7 @@ use Rattle.esr_order.proofs.Gathered.{commits_length}
 use Rattle.esr_order.proofs.Gathering.{no_txn}
 use Rattle.esr_order.proofs.BackwardSearch.{number_at}
 use Rattle.esr_stream.specs.Reads.{raised}
-use Rattle.esr_stream.specs.Passes.{IsPassInvariant, IsRowApplied}
+use Rattle.esr_stream.specs.Passes.{IsPassInvariant, IsUpdateApplied}
 use Rattle.esr_stream.proofs.StepLaws.{accesses_valued}
 use Rattle.esr_stream.proofs.PassLaws.{passed_more, stay_more}
 use Rattle.esr_stream.proofs.pass.pass.Goals as goal
@@ -42,8 +42,8 @@ loop-i-preserved g c =
     let items = recursion_from_All (λ (a : Access). a.item.0 < length h.opening) row (subst (All (λ (a : Access). a.item.0 < length h.opening)) (sym c.in_ok-row.ensures) (accesses_inside d h legal _ (length h.opening) refl)) in
     let marked = c.is_forced-marked.result in
     let kept = c.steps-keeps.ensures.row c.if-not-keeps.false in
-    let put : IsRowApplied C marked row c.loop-i.states c.steps-keeps.new.states kept.0 kept.1 =
-    subst (λ w. IsRowApplied (raised (g.M.Metric.distance_by w) c.args.values_read.now) marked row c.loop-i.states c.steps-keeps.new.states kept.0 kept.1) c.metric.ensures kept.2 in
+    let put : IsUpdateApplied C marked row c.loop-i.states c.steps-keeps.new.states kept.0 kept.1 =
+    subst (λ w. IsUpdateApplied (raised (g.M.Metric.distance_by w) c.args.values_read.now) marked row c.loop-i.states c.steps-keeps.new.states kept.0 kept.1) c.metric.ensures kept.2 in
     record {
       len = c.steps-keeps.ensures.len ∙ c.loop-i.invariant.len;
       marks = length-set c.loop-i.marks i marked ∙ c.loop-i.invariant.marks;

@@ -10,7 +10,7 @@ use Rattle.esr_order.proofs.Gathering.{no_txn}
 use Rattle.esr_order.proofs.BackwardSearch.{number_at}
 use Rattle.esr_stream.specs.Reads.{raised}
 use Rattle.esr_order.proofs.Lists.{written_back}
-use Rattle.esr_stream.specs.Passes.{ItemState, AreStates, IsRowApplied}
+use Rattle.esr_stream.specs.Passes.{ItemState, AreStates, IsUpdateApplied}
 use Rattle.esr_stream.proofs.StepLaws.{accesses_valued}
 use Rattle.esr_stream.proofs.PassLaws.{first_more}
 use Rattle.esr_stream.proofs.pass.start.Goals as goal
@@ -53,9 +53,9 @@ loop-i-preserved g c =
     let sized : length new ≡ length old = c.fits-fit.ensures.len ∙ ap (λ (l : List ItemState). length l) c.deref_mut.ensures.value in
     let back = written_back new old c.loop-i.states.len c.loop-i.states.ok.0 sized in
     let kept = c.fits-fit.ensures.row c.if-not-fit.false in
-    let put : IsRowApplied C true row old new kept.0 kept.1 =
-    subst (λ l. IsRowApplied C true row l new kept.0 kept.1) c.deref_mut.ensures.value
-    (subst (λ w. IsRowApplied (raised (g.M.Metric.distance_by w) values_read) true row c.deref_mut.result.now new kept.0 kept.1) c.metric.ensures kept.2) in
+    let put : IsUpdateApplied C true row old new kept.0 kept.1 =
+    subst (λ l. IsUpdateApplied C true row l new kept.0 kept.1) c.deref_mut.ensures.value
+    (subst (λ w. IsUpdateApplied (raised (g.M.Metric.distance_by w) values_read) true row c.deref_mut.result.now new kept.0 kept.1) c.metric.ensures kept.2) in
     record {
       len = ap (λ (l : List ItemState). length l) back ∙ sized ∙ c.loop-i.invariant.len;
       states = λ marks firsts.
