@@ -1,7 +1,8 @@
 -- A pass visits the updates that committed before a query, once, in commit order. It marks updates that every closed set of
--- least cost contains. The cost of a version of an item is the distance of the query's reads of the item from it. Each current
--- version has an amount, at most its cost, and no update decreases the sum of the amounts. So this sum at the start, the
--- `worth`, is a lower bound on the cost of every closed set (`esr_bound`).
+-- least cost contains. The cost of a version of an item is the distance of the query's reads of the item from it. The amount of
+-- a version is the part of its cost that the lower bound counts. Amounts are proposed beforehand, and the pass checks them: each
+-- is at most the cost, and no update decreases the sum of the amounts of the current versions (else there is no result). So this
+-- sum at the start, the `worth`, is a lower bound on the cost of every closed set (`esr_bound`).
 --
 -- These are the state of each item along a pass, the effect of one update on it, the invariant of a pass, and its result. In
 -- all of them value v of item x costs C x v, and there are n items.
@@ -40,12 +41,13 @@ amounts_sum states = sum_by (λ i. i.amount) states
 abbrev pub costs_sum : List ItemState → ℕ
 costs_sum states = sum_by (λ i. i.cost) states
 
--- the state with `covered` set
+-- The state with `covered` set. An item is covered if each writer of it that the pass has visited is marked, or a writer visited
+-- after that one is.
 abbrev pub as_covered : ItemState → ItemState
 as_covered s = record { cost = s.cost; amount = s.amount; covered = true }
 
 -- whether the next writer of item x has to be marked: the amount of the current version of x is below the cost of this version,
--- and each earlier writer of x is marked, or a later one is (`covered`)
+-- and x is covered
 abbrev pub has_slack_at : List ItemState → ℕ → Bool
 has_slack_at states x = (state_at states x).covered && nat_lt (state_at states x).amount (state_at states x).cost
 
