@@ -15,10 +15,10 @@
 //! for them. They need the history from its opening. So each history is logged from there, but without a thread only up to
 //! [`MAX_LOGGED`] entries; a longer log is dropped. With a thread a history is logged as a whole: at most 16 MB. After
 //! [`QUIET`] histories in which no report began, a history is not logged at all: a report that is carried into it is not
-//! audited, and the log costs a fifteenth of the throughput. If a report begins and finds no log, the bank is renewed first,
-//! and the log restarts with the new history. This renewal makes no report inexact: each active one was carried before. If the
-//! thread cannot be started, or this renewal fails, nothing is logged until the next renewal, and audits hold the lock:
-//! neither is tried twice in a history.
+//! audited, and the log takes 6 per cent of an update's instructions. If a report begins and finds no log, the bank is
+//! renewed first, and the log restarts with the new history. This renewal makes no report inexact: each active one was
+//! carried before. If the thread cannot be started, or this renewal fails, nothing is logged until the next renewal, and
+//! audits hold the lock: neither is tried twice in a history.
 //!
 //! The thread sleeps until a report begins. At a renewal without pending audits the log is dropped, and the second engine
 //! restarts from the values; with pending ones, the logs of both histories are kept until they are made.
@@ -467,7 +467,8 @@ pub(crate) mod tests {
         assert_eq!((finding.distance, finding.import), (100, 100));
     }
 
-    /// A history is not logged if no report has begun for some time, until the bank is renewed for one. No pending audit is lost.
+    /// A history is not logged if no report has begun for some time, until the bank is renewed for one. No pending audit is
+    /// lost.
     #[test]
     fn quiet_histories_are_not_logged() {
         let (twin, mut feed) = opened();
