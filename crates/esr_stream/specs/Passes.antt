@@ -1,7 +1,7 @@
 -- A pass visits the updates that committed before a query, once, in commit order. It marks updates that every closed set of
 -- least cost contains. The cost of a version of an item is the distance of the query's reads of the item from it. The amount of
 -- a version is the part of its cost that the lower bound counts. Amounts are proposed beforehand, and the pass checks them: each
--- is at most the cost, and no update decreases the sum of the amounts of the current versions (else there is no result). So this
+-- is at most the cost, and no update decreases the sum of the amounts of the current versions (else the pass ends). So this
 -- sum at the start, the `worth`, is a lower bound on the cost of every closed set (`esr_bound`).
 --
 -- These are the state of each item along a pass, the effect of one update on it, the invariant of a pass, and its result. In

@@ -376,7 +376,7 @@ fn first_reports() {
     assert!(all.iter().all(|count| count.load(Ordering::Relaxed) > 0));
 }
 
-/// Reports that begin seldom are audited by the second engine, after a renewal of their own.
+/// Reports that begin seldom are audited by the second engine, after a separate renewal.
 #[test]
 fn rare_reports() {
     let bank = updated(1);

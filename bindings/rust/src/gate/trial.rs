@@ -1,6 +1,6 @@
 //! Whether reservations of a gate are worth their time.
 //!
-//! Nobody holds a gate while it is reserved. This time, the *gap*, is the price of a reservation. In return the data of a
+//! No thread holds a gate while it is reserved. This time, the *gap*, is the price of a reservation. In return the data of a
 //! hold need not move to another processor, which takes about as long as the hold itself, since both grow with the data. So
 //! a reservation is worth a gap of one and a half holds, and [`SHORT`] for the gate's own lines. (Four threads were as fast
 //! with leases as without when the gap took 1.7 holds.)
