@@ -93,6 +93,26 @@ fn followed_by<'a>(source: Source<'a>, causes: &Causes, place: usize) -> &'a str
     }
 }
 
+/// Returns a note with the name of the charged update that its writer follows.
+fn completed<'a>(source: Source<'a>, causes: &Causes, note: Option<Note<'a>>) -> Option<Note<'a>> {
+    match note {
+        Some(
+            Note::Wrote {
+                update,
+                value,
+                place,
+                ..
+            },
+        ) => Some(Note::Wrote {
+            update,
+            value,
+            place,
+            follows: followed_by(source, causes, place),
+        }),
+        _ => note,
+    }
+}
+
 /// Completes the notes at the reads of the lane of a query with these causes.
 pub fn complete_notes<'a>(
     source: Source<'a>,
@@ -100,11 +120,11 @@ pub fn complete_notes<'a>(
     marks: &mut [Mark<'a>],
     query_lane: usize,
 ) {
-    for mark in marks {
-        if mark.lane == query_lane
-            && let Some(Note::Wrote { place, follows, .. }) = &mut mark.note
+    for index in 0..marks.len() {
+        if let Some(mark) = marks.get_mut(index)
+            && mark.lane == query_lane
         {
-            *follows = followed_by(source, causes, *place);
+            mark.note = completed(source, causes, mark.note);
         }
     }
 }
