@@ -9,6 +9,7 @@ pub mod Bytes
 pub mod Classes
 pub mod Lanes
 pub mod Eights
+pub mod Lasts
 pub mod Fronts
 pub mod Feeds
 pub mod Spelling

@@ -3,13 +3,13 @@
 //! The line is the text of the returned command. If none is returned, the words of the line decide (`parse`), so this
 //! module need not recognize every line.
 
-ghost use Rattle.std.specs.Prelude.{◌≡◌, ◌∷◌, ◌++◌, IfSome, codes, map, not, true};
-ghost use Rattle.std.specs.List.{position};
+ghost use Rattle.std.specs.Prelude.{◌≡◌, ℕ, List, ◌∷◌, ◌++◌, IfSome, codes, map, not, option_map, true};
+ghost use Rattle.std.specs.List.{list_all, position};
 ghost use Rattle.std.specs.Simd.Lanes.{mask_l};
-ghost use Rattle.esr_grammar.specs.Command.{is_letter, is_name_byte, IsName, IsSyntaxOf, view};
+ghost use Rattle.esr_grammar.specs.Command.{is_letter, is_name, is_name_byte, name_of, IsName, IsSyntaxOf, view};
 
 use crate::parse::Line;
-use crate::words::{int_at_end, is_name_byte, limit, name};
+use crate::words::{all_name_bytes, int_at_end, is_letter, is_name_byte, limit, name};
 use std::simd::prelude::*;
 use std::str::from_utf8_unchecked;
 
@@ -54,6 +54,46 @@ fn is_letter_of_name(byte: u8) -> bool
     byte > b'9' && byte != b'_'
 }
 
+/// Returns whether a name may contain each byte of the word, with which the text ends. Most words have up to eight bytes.
+#[inline(always)]
+fn all_name_bytes_at_end(text: &[u8], word: &[u8]) -> bool
+    requires { (front : List ℕ) × (text.now ≡ front ++ word.now) }
+    ensures { result ≡ list_all is_name_byte word.now }
+{
+    if word.len() <= 8 && text.len() >= 8 {
+        let stops = name_stops(u8x8::from_slice(&text[text.len() - 8..]));
+        return stops >> (8 - word.len()) == 0;
+    }
+    all_name_bytes(word)
+}
+
+/// Returns whether the word with which the text ends is a valid name.
+#[inline(always)]
+fn is_name_at_end(text: &[u8], word: &[u8]) -> bool
+    requires { (front : List ℕ) × (text.now ≡ front ++ word.now) }
+    ensures { result ≡ is_name word.now }
+{
+    match word.split_first() {
+        None => false,
+        Some((first, rest)) => {
+            is_letter(*first) && rest.len() <= 15 && all_name_bytes_at_end(text, rest)
+        }
+    }
+}
+
+/// Returns the word with which the text ends as a name, if it is valid.
+#[inline(always)]
+fn name_at_end<'a>(text: &[u8], word: &'a [u8]) -> Option<&'a str>
+    requires { (front : List ℕ) × (text.now ≡ front ++ word.now) }
+    ensures { option_map (λ name. name.now) result ≡ name_of word.now }
+{
+    if !is_name_at_end(text, word) {
+        return None;
+    }
+    // the bytes of a name are ASCII
+    Some(unsafe { from_utf8_unchecked(word) })
+}
+
 /// Returns the name before the first space, and the text after the space.
 #[inline(always)]
 fn front_name(bytes: &[u8]) -> Option<(&str, &[u8])>
@@ -94,7 +134,7 @@ fn read(words: &[u8]) -> Option<Line<'_>>
     ensures { IfSome result (λ line. IsSyntaxOf (codes "read " ++ words.now) (view line)) }
 {
     let (txn, last) = front_name(words)?;
-    let item = name(last)?;
+    let item = name_at_end(words, last)?;
     Some(Line::Read { txn, item })
 }
 

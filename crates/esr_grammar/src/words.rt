@@ -112,8 +112,9 @@ pub fn is_name_byte(byte: u8) -> bool
     name_bytes()[byte as usize]
 }
 
+/// Returns whether a name may contain each byte.
 #[inline(always)]
-fn all_name_bytes(text: &[u8]) -> bool
+pub fn all_name_bytes(text: &[u8]) -> bool
     ensures { result ≡ list_all is_name_byte text.now }
 {
     text.iter().all(|b| is_name_byte(*b))

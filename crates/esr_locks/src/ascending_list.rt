@@ -122,10 +122,15 @@ impl<R: MadeWith<Global> + Copy + Drop, const N: usize> AscendingList<R, N> {
         }
     }
 
+    /// Returns the elements. Most lists are empty, and then neither the place of the elements nor the count of removed ones
+    /// is needed.
     #[inline(always)]
     pub fn as_slice(&self) -> &[R]
         ensures { result.now ≡ self.now.items }
     {
+        if self.elements.is_empty() {
+            return &[];
+        }
         &self.elements.as_slice()[self.removed..]
     }
 

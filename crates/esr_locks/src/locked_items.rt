@@ -1,4 +1,4 @@
-//! Lists the items that one transaction has locked, in the order of its locks, for their release. Up to six are stored
+//! Lists the items that one transaction has locked, in the order of its locks, for their release. Up to eight are stored
 //! inline.
 
 ghost use Rattle.std.specs.Prelude.{◌≡◌, ◌<◌, [], ◌∷◌, ◌++◌, OnOk, OnErr};
@@ -9,10 +9,10 @@ use smallvec::SmallVec;
 use std::alloc::{AllocError, Global};
 use std::marker::Model;
 
-/// The items that a transaction has locked. Up to six are stored inline, more in an allocation.
+/// The items that a transaction has locked. Up to eight are stored inline, more in an allocation.
 #[derive(Drop)]
 pub struct LockedItems {
-    list: SmallVec<ItemId, 6>,
+    list: SmallVec<ItemId, 8>,
 }
 
 impl Model for LockedItems {

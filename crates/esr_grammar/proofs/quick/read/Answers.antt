@@ -1,6 +1,12 @@
-use Rattle.std.proofs.Common.{◌≡◌, sym, ap, ◌∙◌, ◌++◌, ◌∷◌}
+use Rattle.std.proofs.Common.{◌≡◌, sym, ap, ◌∙◌, ◌++◌, ◌∷◌, []}
+use Rattle.esr_grammar.proofs.Eights.{past_first}
 use Rattle.esr_grammar.proofs.Spelling.{name_found}
 use Rattle.esr_grammar.proofs.quick.read.Goals as goal
+
+pub name_at_end-requires : goal.name_at_end-requires
+name_at_end-requires c =
+    let txn = c.in_ok-txn in
+    (txn.txn.now ++ 32 ∷ [], txn.ensures.1 ∙ past_first txn.txn.now txn.last.now 32)
 
 pub returns : goal.returns
 returns c =
