@@ -69,9 +69,6 @@ module _ (h : Schedule) (q : ℕ) (C : ℕ → ℤ → ℕ) (k : ℕ) (marked : 
     (next : (x : ℕ) → left_by_all h q (k + 1) x ≡ last_value (left_by_all h q k x) (values_by h x (nth (updates_committed_before h q) k)))
     (put : IsUpdateApplied C marked row old new before after)
     (earlier : (i : ℕ) → i < k → mark_at marks' i ≡ mark_at marks i) where
-  abbrev n : ℕ
-  n = length h.opening
-
   abbrev here : ℕ
   here = nth (updates_committed_before h q) k
 
