@@ -76,9 +76,6 @@ fullness g f e same is = ap (λ (s : Schedule). is_full s e) (sym same) ∙ is
 
 -- ---- from the first event on
 
-pub at_first : (h : Schedule) (events : List EsrEvent) (buffer : List EsrReply) → AreAnswered h h events 0 buffer
-at_first h events buffer = record { within = omega arith; each = refl; after = refl; reported = refl }
-
 module _ (h g : Schedule) (events : List EsrEvent) (n : ℕ) (buffer : List EsrReply) (d : EsrEvent) (so_far : AreAnswered h g events n buffer) (within : n < length events) where
   module _ (r : Reply) (f : Schedule) (one : IsOne g (get_or events n d) f r) where
     grown : events_in (n + 1) events ≡ events_in n events ++ one.0 ∷ []

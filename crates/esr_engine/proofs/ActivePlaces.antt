@@ -130,12 +130,6 @@ pub record CoverUpTo (h : Schedule) (k : ℕ) (places : List ℕ) : Type 0 where
   pub inside : (i : ℕ) → In i places → i < length h.entries
   pub all : (t : ℕ) → t < k + 1 → is_active (accepted_in h) t ≡ true → (i : ℕ) → In i (places_from accepted_txn t 0 h.entries) → In i places
 
-pub cover_none : (h : Schedule) → CoverUpTo h 0 []
-cover_none h = record {
-  inside = λ i j. absurd j;
-  all = λ t l act i j. let n = begun_in_range (accepted_in h) t (active_parts (accepted_in h) t act).0 in absurd (omega (arith, n.0, l));
-}
-
 pub cover_same : (h : Schedule) (k : ℕ) (places : List ℕ) → is_active (accepted_in h) (k + 1) ≡ false → CoverUpTo h k places → CoverUpTo h (k + 1) places
 cover_same h k places ended was = record {
   inside = was.inside;

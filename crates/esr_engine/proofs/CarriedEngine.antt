@@ -43,9 +43,6 @@ count_all p a (suc n) all =
     k ∙ rw one (omega (arith, rest))
 
 module _ (h : Schedule) where
-  again : List Event
-  again = events_again weighted h (active_numbers h) (accepted_in h) (accepted_in h)
-
   active_at : (k : ℕ) → 1 ≤ k → k < 1 + length (active_numbers h) → is_active (events_again weighted h (active_numbers h) (accepted_in h) (accepted_in h)) k ≡ true
   active_at zero low high = absurd (omega arith)
   active_at (suc i) low high =

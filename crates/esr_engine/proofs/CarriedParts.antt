@@ -294,9 +294,3 @@ module _ (h : Schedule) (active : List ActiveTxn) (is : active ≡ active_in h) 
       let same : e ≡ carried_begin weighted h t = ap (λ (v : Event). record { event = v; reply = e.reply }) event_is ∙ ap (λ (r : Reply). record { event = (carried_begin weighted h t).event; reply = r }) reply_is in
       grown ∙ (ap (λ l. l ++ e ∷ []) before ∙ (ap (λ x. map (carried_begin weighted h) (take i (active_numbers h)) ++ x ∷ []) same
       ∙ sym (map_more (carried_begin weighted h) (active_numbers h) i 0 below)))
-
-  pub all_numbers : length active ≤ i + 1 → take (i + 1) (active_numbers h) ≡ active_numbers h
-  all_numbers past =
-      let a = ap length is in let b = length-map (active_numbers h) (active_as h) in
-      let all : i + 1 ≡ length (active_numbers h) = omega (arith, a, b, past, inside) in
-      ap (λ n. take n (active_numbers h)) all ∙ take-length (active_numbers h)

@@ -123,8 +123,3 @@ max_and_median_sorted ns sorted moved up has =
       rising_last sorted rising has ∙ ap greatest is ∙ greatest_ascending ns,
       ap₂ (λ (ks : List ℕ) (k : ℕ). get_or ks ((k - 1) / 2) 0) is many,
     )
-
--- of no number
-pub max_and_median_none : (ns sorted : List ℕ) → IsPermutation ns sorted → length sorted ≡ 0 → (greatest ns ≡ 0) × (median ns ≡ 0)
-max_and_median_none [] sorted moved none = (refl, refl)
-max_and_median_none (n ∷ ns) sorted moved none = absurd (omega (arith, length_permutation (n ∷ ns) sorted moved, none))

@@ -26,15 +26,6 @@ pub record IsFirst (ns : List ℕ) (index upper_bound : ℕ) : Type 0 where
   pub at : index < length ns → get_or ns index 0 ≡ upper_bound
   pub some : 0 < length ns → index < length ns
 
-pub first_none : IsFirst [] 0 0
-first_none = record {
-  most_is = refl;
-  within = omega arith;
-  before = λ k lt. absurd (omega (arith, lt));
-  at = λ lt. absurd (omega (arith, lt));
-  some = λ lt. lt;
-}
-
 none_in : (ns : List ℕ) (index upper_bound : ℕ) → IsFirst ns index upper_bound → length ns ≤ index → length ns ≡ 0
 none_in ns index upper_bound is past = elim (cases_lt 0 (length ns)) [
   | inl has ↦ absurd (omega (arith, is.some has, past))

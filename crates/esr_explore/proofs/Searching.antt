@@ -64,11 +64,6 @@ pub held_counts : (blocks : List (Vec Call Global)) → map (λ b. length b.item
 held_counts [] = refl
 held_counts (b ∷ blocks) = ap (λ (l : List ℕ). length b.items ∷ l) (held_counts blocks)
 
--- no order drawn yet
-pub drawn_none : (opening : List ℤ) (weights : List ℕ) (blocks : List (List Call)) (queries : List Query) (counts : List ℕ)
-    → AreDrawn opening weights blocks queries counts 0 []
-drawn_none opening weights blocks queries counts = record { orders = []; number = refl; drawn = λ k d lt. absurd (omega (arith, lt)); inconsistencies = tt }
-
 -- one more order, and its summary
 pub drawn_more : (opening : List ℤ) (weights : List ℕ) (blocks : List (List Call)) (queries : List Query) (counts : List ℕ) (many : ℕ) (summaries new : List RunSummary) (o : List ℕ) (t : RunSummary)
     → AreDrawn opening weights blocks queries counts many summaries → IsOrder counts (sum counts) o → IsSummary opening weights blocks queries o t

@@ -3,4 +3,3 @@
 pub mod Accessed
 pub mod Begun
 pub mod Ended
-pub mod Found

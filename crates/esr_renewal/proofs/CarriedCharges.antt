@@ -191,12 +191,6 @@ module _ (d : DistanceFunction) (h : Schedule) (legal : IsLegal d h) where
               ∙ operation_case d h (λ e f. due distance o (events_again d h (active_numbers h) ys []) f ≡ [])
               (λ t x own. update_reads_free o ys [] t x own) (λ t x v own. write_is_free o ys (new_number h t.0) x v) e f is
 
-  pub charged_before : (o : List ℤ) (us : List Event) → charges distance o (events_again d h (active_numbers h) us []) ≡ []
-  charged_before o us =
-      ap (charges distance o) (ap (λ l. begins_again d h (active_numbers h) ++ l) (append-nil (filter_map (operation_again d h) us)))
-      ∙ (charges_parts distance o [] (begins_again d h (active_numbers h)) (filter_map (operation_again d h) us)
-      ∙ rw (begins_free o [] (active_numbers h)) (operations_free o us))
-
   pub charged_then : (rs : List Event) → charges distance (committed_values h) (events_again d h (active_numbers h) (accepted_in h) rs) ≡ flat_map charges_of rs
   charged_then rs =
       let first : List Event = begins_again d h (active_numbers h) ++ filter_map (operation_again d h) (accepted_in h) in

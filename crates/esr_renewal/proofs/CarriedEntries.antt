@@ -30,9 +30,6 @@ accepted_parts xs ys =
 pub accepted_first : (e : Entry) (es : List Entry) → is_refusal e.reply ≡ false → accepted (e ∷ es) ≡ e.event ∷ accepted es
 accepted_first e es is = rw is refl
 
-refused_first : (e : Entry) (es : List Entry) → is_refusal e.reply ≡ true → accepted (e ∷ es) ≡ accepted es
-refused_first e es is = rw is refl
-
 -- none of the reasons applies, so none is the first that does
 pub first_none : (rs : List (Option Refusal)) → NoneApplies rs → first_reason rs ≡ None
 first_none [] none = refl

@@ -69,9 +69,6 @@ reads_sum : (q : ℕ) (f : ℕ → ℕ) (es : List Entry) → sum_by (λ (o : Op
 reads_sum q f [] = refl
 reads_sum q f (e ∷ es) = at (is_refusal e.reply) (reads_sum q f es)
   where
-    abbrev_sum : List Operation → ℕ
-    abbrev_sum os = sum_by (λ (o : Operation). f o.item) (filter (λ o. not o.writes && (o.txn == q)) os)
-
     read_sum : (s x : ℕ) (v : ℤ) (b : Bool) (os : List Operation) → sum_by (λ (o : Operation). f o.item) (cond b (record { txn = s; item = x; writes = false; value = v } ∷ os) os) ≡ (if b then f x else 0) + sum_by (λ (o : Operation). f o.item) os
     read_sum s x v true os = sum_by-cons (λ (o : Operation). f o.item) (record { txn = s; item = x; writes = false; value = v }) os
     read_sum s x v false os = omega arith
@@ -99,9 +96,6 @@ module _ (d : DistanceFunction) (h : Schedule) where
   abbrev pub open_of : Event → List Charge
   open_of (Read q x) = if is_active_query h q.0 then charge_of_read distance h.opening (accepted_in h) q.0 x.0 (writer (accepted_in h) x.0) else []
   open_of _ = []
-
-  queries : List ℕ
-  queries = filter (is_query (accepted_in h)) (active_numbers h)
 
   -- sums over the open charges, by the reads in their order
   module _ (f : Charge → ℕ) where

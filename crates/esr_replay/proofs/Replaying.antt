@@ -8,8 +8,8 @@ use Rattle.esr_history.specs.declared.event.Reply.TheVariants.{Begun, Value, Wro
 use Rattle.esr_history.specs.declared.event.Refusal.{Refusal}
 use Rattle.esr_history.specs.declared.event.Entry.{Entry}
 use Rattle.esr_history.specs.Events.{is_refusal}
-use Rattle.esr_history.specs.Imports.{imported, AreDue}
-use Rattle.esr_history.specs.Machine.{DistanceFunction, Schedule, IsLegal, IsLegalAfter, accepted_in, charges, charges_in, value_distance, due_in, empty_schedule, extended, import_in, reply_to}
+use Rattle.esr_history.specs.Imports.{AreDue}
+use Rattle.esr_history.specs.Machine.{DistanceFunction, Schedule, IsLegal, IsLegalAfter, accepted_in, charges, charges_in, value_distance, empty_schedule, extended, import_in, reply_to}
 use Rattle.esr_history.proofs.Charges.{import-push}
 use Rattle.esr_history.proofs.Linking.{accepted_push, accepted_refused}
 use Rattle.esr_history.proofs.Onward.{legal_parts}
@@ -62,9 +62,6 @@ module _ (d : DistanceFunction) (h : Schedule) (e : Event) (r : Reply) where
   grow_refused refused q =
       ap (λ (es : List Event). import_in (charges (value_distance d h) h.opening es) q) (accepted_refused h.entries (record { event = e; reply = r }) refused)
       ∙ omega arith
-
-pub grow_none : (d : DistanceFunction) (h : Schedule) → ImportsGrowBy d h h []
-grow_none d h q = omega arith
 
 -- between equal histories, by equal charges
 pub grow_is : (d : DistanceFunction) (a b x y : Schedule) (cs es : List (TxnId × ℕ)) → a ≡ x → b ≡ y → cs ≡ es → ImportsGrowBy d a b cs → ImportsGrowBy d x y es

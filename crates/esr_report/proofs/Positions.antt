@@ -1,7 +1,6 @@
 -- Positions of names, given their keys, and one more name.
-use Rattle.std.proofs.Common.{◌≡◌, ℕ, zero, suc, ◌+◌, ◌<◌, ◌≤◌, List, [], ◌∷◌, ◌++◌, ◌⊎◌, inl, inr, Bool, true, false, ◌||◌, ◌&&◌, not, cond, nat_lt, map, length, All, refl, sym, ◌∙◌, ap, arith, rules, Some, None, ltb-false, le-ltb, lt-ltb, bytes_eq}
+use Rattle.std.proofs.Common.{◌≡◌, ℕ, zero, suc, ◌+◌, ◌<◌, ◌≤◌, List, [], ◌∷◌, ◌++◌, ◌⊎◌, inl, inr, Bool, true, false, ◌||◌, ◌&&◌, not, cond, nat_lt, map, length, All, refl, sym, ◌∙◌, ap, arith, Some, None, ltb-false, le-ltb, lt-ltb, bytes_eq}
 use Rattle.std.specs.List.{position, position_or_len, list_any, slice_get}
-use Rattle.std.proofs.lemmas.List.Elements.{All-append}
 use Rattle.std.proofs.lemmas.List.Folds.{list_any-append}
 use Rattle.std.proofs.lemmas.Slice.Eq.{bytes_eq-Decides}
 use Rattle.esr_report.specs.Names.{position_of, all_distinct}
@@ -28,10 +27,6 @@ module _ {X : Type 0} (g : X → List ℕ) where
   map_push [] x = refl
   map_push (y ∷ ys) x = ap (λ l. g y ∷ l) (map_push ys x)
 
-  pub any_seen : (p : List ℕ → Bool) (xs : List X) → list_any (λ k. p (g k)) xs ≡ list_any p (map g xs)
-  any_seen p [] = refl
-  any_seen p (x ∷ xs) = ap (λ b. p (g x) || b) (any_seen p xs)
-
 module _ {X : Type 0} (g : X → List ℕ) where
   all_differ : (xs : List X) (name : List ℕ) (upper_bound : ℕ) → All (λ x. length (g x) ≤ upper_bound) xs → upper_bound < length name → length xs ≤ position_or_len (λ x. bytes_eq name (g x)) xs
   all_differ [] name upper_bound h l = omega arith
@@ -49,12 +44,6 @@ module _ {X : Type 0} (g : X → List ℕ) where
   longer xs name upper_bound h l =
       sym (position_seen g (bytes_eq name) xs)
       ∙ ap (λ v. cond v (Some (position_or_len (λ x. bytes_eq name (g x)) xs)) None) (le-ltb (position_or_len (λ x. bytes_eq name (g x)) xs) (length xs) (all_differ xs name upper_bound h l))
-
-  -- names of at most `upper_bound` bytes, and one more of them
-  pub short_push : (xs : List X) (x : X) (upper_bound : ℕ) → All (λ y. length (g y) ≤ upper_bound) xs → length (g x) ≤ upper_bound → All (λ y. length (g y) ≤ upper_bound) (xs ++ x ∷ [])
-  short_push xs x upper_bound h l =
-      let one : All (λ y. length (g y) ≤ upper_bound) (x ∷ []) = search rules in
-      All-append (λ y. length (g y) ≤ upper_bound) xs (x ∷ []) h one
 
 chosen_none : (v : Bool) (n : ℕ) → cond v (Some n) None ≡ None → v ≡ false
 chosen_none true n e = cc

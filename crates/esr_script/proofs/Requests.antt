@@ -7,12 +7,3 @@ use Rattle.esr_script.specs.Text.{ScriptState, Executes, ask, RunFault}
 pub audited : {T : Type 0} (r : Result T RunFault) (s after : ScriptState) (n m : Named) (e f : Event) (out grown : List ℕ) → n ≡ m → e ≡ f
     → Executes (ask s n e) after out grown r → Executes (ask s m f) after out grown r
 audited r s after n m e f out grown names event h = rw (← names, ← event) h
-
--- the outcome of a line is not part of its text
-pub executed_as : {T U : Type 0} {due : Result (ScriptState × List ℕ) RunFault} {after : ScriptState} {out grown : List ℕ} {done : T} (other : U)
-    → Executes due after out grown (Ok done) → Executes due after out grown (Ok other)
-executed_as other h = record { ok = h.ok; err = tt; faults = tt }
-
-pub failed_as : {T U : Type 0} {due : Result (ScriptState × List ℕ) RunFault} {after : ScriptState} {out grown : List ℕ} (e : RunFault)
-    → Executes {T = T} due after out grown (Err e) → Executes {T = U} due after out grown (Err e)
-failed_as e h = record { ok = tt; err = h.err; faults = h.faults }

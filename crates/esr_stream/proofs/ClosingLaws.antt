@@ -54,9 +54,6 @@ module _ (d : DistanceFunction) (h : Schedule) (q : ℕ) (legal : IsLegal d h) (
   abbrev u : ℕ
   u = nth (updates_committed_before h q) i
 
-  abbrev marks' : List Bool
-  marks' = set marks i member
-
   own : mark_at (set marks i member) i ≡ member
   own = mark_same marks i member sized
 

@@ -18,9 +18,6 @@ use Rattle.esr_bound.proofs.LowerBound.{in_range, range_in, pairs_at}
 use Rattle.esr_stream.specs.Passes.{IsPrefixMarked}
 
 module _ (d : DistanceFunction) (h : Schedule) (q : ℕ) (legal : IsLegal d h) (marks : List Bool) where
-  abbrev us : List ℕ
-  us = updates_committed_before h q
-
   apart : (i j : ℕ) → i < j → j < length (updates_committed_before h q) → nth (updates_committed_before h q) i ≡ nth (updates_committed_before h q) j → ⊥
   apart i j l m = pairs_at (λ u v. u ≡ v → ⊥) (updates_committed_before h q) (in_order d h q legal).once i j l m
 

@@ -16,9 +16,6 @@ use Rattle.esr_stream.proofs.MarkLaws.{mark_is, position_marked}
 use Rattle.esr_stream.proofs.StepLaws.{written_is}
 
 module _ (d : DistanceFunction) (h : Schedule) (q : ℕ) (legal : IsLegal d h) (marks : List Bool) where
-  abbrev S : ℕ → Bool
-  S = among_marked (updates_committed_before h q) marks
-
   pub cost_more : (C : ℕ → ℤ → ℕ) (k x : ℕ) (old new : List ItemState) (row : List Access) (marked : Bool) → k < length (updates_committed_before h q) → row ≡ accesses_in h.entries (nth (updates_committed_before h q) k) → marked ≡ mark_at marks k → x < length old
       → (marked ≡ true → (before : ℕ) × (after : ℕ) × IsUpdateApplied C true row old new before after) → (marked ≡ false → new ≡ old)
       → (state_at old x).cost ≡ C x (left_by h q (among_marked (updates_committed_before h q) marks) k x) → (state_at new x).cost ≡ C x (left_by h q (among_marked (updates_committed_before h q) marks) (k + 1) x)

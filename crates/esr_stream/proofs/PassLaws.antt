@@ -47,9 +47,6 @@ module _ (d : DistanceFunction) (h : Schedule) (q : ℕ) (legal : IsLegal d h) (
       (is_row : row ≡ accesses_in h.entries (nth (updates_committed_before h q) k)) (items : AllByRecursion (λ (a : Access). a.item.0 < length h.opening) row)
       (why : marked ≡ true → (mark_at marks k ≡ true) ⊎ (list_any (λ (a : Access). a.writes && has_slack_at old a.item.0) row ≡ true))
       (put : IsUpdateApplied C marked row old new before after) (keeps : before ≤ after) where
-    abbrev marks' : List Bool
-    marks' = set marks k marked
-
     earlier : (i : ℕ) → i < k → mark_at (set marks k marked) i ≡ mark_at marks i
     earlier i l = mark_other marks k i marked (λ e. omega (arith, l, e))
 

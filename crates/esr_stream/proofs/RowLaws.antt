@@ -15,16 +15,6 @@ use Rattle.esr_history.proofs.Membership.{each_in, each_at}
 use Rattle.esr_stream.specs.Reads.{distance_sum}
 use Rattle.esr_stream.specs.Passes.{ItemState, no_state, state_at, is_write, written_in, IsUpdateApplied, amounts_sum}
 
-pub row_start : (C : ℕ → ℤ → ℕ) (marked : Bool) (states : List ItemState) → IsUpdateApplied C marked [] states states 0 0
-row_start C marked states = record {
-  len = refl;
-  others = λ x e. refl;
-  cost = λ x v l e. e;
-  under = λ x l w. absurd (w refl);
-  covered_if_marked = λ x l w. absurd (w refl);
-  sum = refl;
-}
-
 written_more : (x : ℕ) (row : List Access) (a : Access) → written_in x (row ++ a ∷ []) ≡ written_in x row ++ written_in x (a ∷ [])
 written_more x row a =
     ap (map (λ (b : Access). b.value)) (filter-append (is_write x) row (a ∷ []))

@@ -1,10 +1,10 @@
 -- The effect of an update on the states of items is a step of the amounts.
-use Rattle.std.proofs.Common.{All, ◌≡◌, ℕ, zero, suc, ℤ, ◌+◌, ◌<◌, ◌≤◌, Bool, true, false, cond, ◌&&◌, eqb, List, [], ◌∷◌, ◌++◌, length, length-append, filter, map, sum_by, refl, sym, ap, ◌∙◌, subst, inl, inr, arith, ◌⊎◌, nat_lt, eq-eqb}
+use Rattle.std.proofs.Common.{All, ◌≡◌, ℕ, zero, suc, ℤ, ◌+◌, ◌<◌, ◌≤◌, Bool, true, false, cond, ◌&&◌, eqb, List, [], ◌∷◌, length, filter, map, sum_by, refl, sym, ap, ◌∙◌, subst, inl, inr, arith, ◌⊎◌, nat_lt, eq-eqb}
 use Rattle.std.specs.List.{range_with_len, list_any, AllByRecursion}
 use Rattle.std.proofs.lemmas.Bool.{cases_eq, and_parts, ltb-true}
 use Rattle.std.proofs.lemmas.List.{length-map}
 use Rattle.std.proofs.lemmas.List.Sums.{sum_by-cons}
-use Rattle.esr_items.specs.Values.{value_at, IsValue}
+use Rattle.esr_items.specs.Values.{IsValue}
 use Rattle.std.proofs.lemmas.List.Elements.{All-from_recursion, recursion_from_All}
 use Rattle.esr_history.proofs.WithinRanges.{legal_within_ranges}
 use Rattle.esr_order.proofs.Lists.{of_map}
@@ -69,9 +69,6 @@ module _ (h : Schedule) (q : ℕ) (C : ℕ → ℤ → ℕ) (k : ℕ) (marked : 
     (next : (x : ℕ) → left_by_all h q (k + 1) x ≡ last_value (left_by_all h q k x) (values_by h x (nth (updates_committed_before h q) k)))
     (put : IsUpdateApplied C marked row old new before after)
     (earlier : (i : ℕ) → i < k → mark_at marks' i ≡ mark_at marks i) where
-  abbrev n : ℕ
-  n = length h.opening
-
   abbrev here : ℕ
   here = nth (updates_committed_before h q) k
 
@@ -183,37 +180,6 @@ slack_is C h q k marks states row are is_row inside any =
     }
 
 -- ---- the opening values
-
-pub opening_none : (C : ℕ → ℤ → ℕ) (opening : List ℤ) (states : List ItemState) → states ≡ [] → AreOpening C opening 0 states
-opening_none C opening states e = record { len = ap length e; cost = λ x l. absurd (omega arith); under = λ x l. absurd (omega arith) }
-
-at_pushed : (states : List ItemState) (i : ItemState) → state_at (states ++ i ∷ []) (length states) ≡ i
-at_pushed [] i = refl
-at_pushed (j ∷ states) i = at_pushed states i
-
-before_pushed : (states : List ItemState) (i : ItemState) (x : ℕ) → x < length states → state_at (states ++ i ∷ []) x ≡ state_at states x
-before_pushed [] i x l = absurd (omega arith)
-before_pushed (j ∷ states) i zero l = refl
-before_pushed (j ∷ states) i (suc x) l = before_pushed states i x (omega arith)
-
-pub opening_more : (C : ℕ → ℤ → ℕ) (opening : List ℤ) (n : ℕ) (states next : List ItemState) (i : ItemState) → AreOpening C opening n states → next ≡ states ++ i ∷ [] → i.cost ≡ C n (value_at opening n) → i.amount ≤ i.cost → AreOpening C opening (n + 1) next
-opening_more C opening n states next i is pushed cost low = record {
-  len = ap length pushed ∙ length-append states (i ∷ []) ∙ (let e = is.len in omega arith);
-  cost = λ x l. elim (cases_eq x n) [
-    | inl e ↦ ap (λ (j : ItemState). j.cost) (own x e) ∙ cost ∙ ap (λ m. C m (value_at opening m)) (sym e)
-    | inr ne ↦ let m : x < n = omega arith in ap (λ (j : ItemState). j.cost) (other x m) ∙ is.cost x m
-  ];
-  under = λ x l. elim (cases_eq x n) [
-    | inl e ↦ let a = ap (λ (j : ItemState). j.cost) (own x e) in let b = ap (λ (j : ItemState). j.amount) (own x e) in omega (arith, a, b, low)
-    | inr ne ↦ let m : x < n = omega arith in let a = ap (λ (j : ItemState). j.cost) (other x m) in let b = ap (λ (j : ItemState). j.amount) (other x m) in let u = is.under x m in omega (arith, a, b, u)
-  ];
-}
-  where
-    own : (x : ℕ) → x ≡ n → state_at next x ≡ i
-    own x e = ap (λ h. state_at h x) pushed ∙ ap (state_at (states ++ i ∷ [])) (e ∙ sym is.len) ∙ at_pushed states i
-
-    other : (x : ℕ) → x < n → state_at next x ≡ state_at states x
-    other x m = ap (λ h. state_at h x) pushed ∙ before_pushed states i x (omega (arith, m, is.len))
 
 pub opening_states_are : (C : ℕ → ℤ → ℕ) (h : Schedule) (q : ℕ) (marks : List Bool) (states : List ItemState) → AreOpening C h.opening (length h.opening) states → AreStates C h q 0 marks states
 opening_states_are C h q marks states is = record {

@@ -1,7 +1,7 @@
 -- Lists of values that were read, one for each item.
 use Rattle.std.proofs.Common.{◌≡◌, ℕ, ℤ, refl, ◌+◌, ◌<◌, Bool, true, false, not, cond, ◌&&◌, List, [], ◌∷◌, ◌++◌, length, take, get_or, map, filter, arith, ap, ◌∙◌, sym, subst, inl, inr, set, Vec, Global, append-nil, eqb, eq-eqb, ne_eqb, get_or-set_same, get_or-set_other}
 use Rattle.std.proofs.lemmas.Bool.{cases_eq}
-use Rattle.std.proofs.lemmas.List.{take_more, map-set, get_or-map, length-map}
+use Rattle.std.proofs.lemmas.List.{take_more, map-set, length-map}
 use Rattle.esr_order.specs.declared.accesses.Access.{Access}
 use Rattle.esr_stream.specs.Reads.{values_of, list_at}
 pub use Rattle.esr_order.proofs.ValueLists.{value_fits, list_push, list_is}
@@ -12,10 +12,6 @@ is_read x a = not a.writes && eqb a.item.0 x
 one_read : (x : ℕ) (a : Access) (b : Bool) → is_read x a ≡ b → values_of (a ∷ []) x ≡ cond b (a.value ∷ []) []
 one_read x a true e = ap (λ b. map (λ (r : Access). r.value) (cond b (a ∷ []) [])) e
 one_read x a false e = ap (λ b. map (λ (r : Access). r.value) (cond b (a ∷ []) [])) e
-
--- a write, or a read of another item, adds no value
-pub no_value : (x : ℕ) (a : Access) → is_read x a ≡ false → values_of (a ∷ []) x ≡ []
-no_value x a e = one_read x a false e
 
 -- a value was appended to the list of its item
 module _ (values_read : List (Vec ℤ Global)) (read : Access) (reads : read.writes ≡ false) (was now : Vec ℤ Global) (inside : read.item.0 < length values_read) (is : was ≡ get_or values_read read.item.0 was) (grown : now.items ≡ was.items ++ read.value ∷ []) where
@@ -45,10 +41,6 @@ module _ (values_read : List (Vec ℤ Global)) (read : Access) (reads : read.wri
         ∙ sym (append-nil (list_at values_read x))
         ∙ ap (λ vs. list_at values_read x ++ vs) (sym (one_read x read false (elsewhere x ne)))
   ]
-
--- nothing was appended
-pub not_put : (values_read : List (Vec ℤ Global)) (read : Access) (x : ℕ) → is_read x read ≡ false → list_at values_read x ≡ list_at values_read x ++ values_of (read ∷ []) x
-not_put values_read read x e = sym (append-nil (list_at values_read x)) ∙ ap (λ vs. list_at values_read x ++ vs) (sym (no_value x read e))
 
 pub values_append : (before after : List Access) (x : ℕ) → values_of (before ++ after) x ≡ values_of before x ++ values_of after x
 values_append [] after x = refl

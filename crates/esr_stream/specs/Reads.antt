@@ -1,5 +1,5 @@
 -- The values that a query read, by item, and the cost of a version of an item.
-use Rattle.std.specs.Prelude.{◌≤◌, ◌+◌, ◌==◌, ◌&&◌, ℕ, ℤ, not, List, [], Vec, All, filter, length, map}
+use Rattle.std.specs.Prelude.{◌≤◌, ◌+◌, ◌==◌, ◌&&◌, ℕ, ℤ, not, List, Vec, All, filter, length, map}
 use Rattle.std.specs.declared.alloc.Global.{Global}
 use Rattle.esr_base.specs.declared.limits.TheConstants.{MAX_READS}
 use Rattle.esr_items.specs.Values.{IsValue}

@@ -19,12 +19,11 @@
 //! offset. A version also records the writer and the residual capacity of the version that it overwrites. So listing a version
 //! does not access the version that it overwrites, and a search reads only the versions of the updates that it visits, which are
 //! adjacent. Rejected: separate lists of costs, amounts, writers and links, which take 28 bytes, and are filled one after another.
-ghost use Rattle.std.specs.Prelude.{◌≡◌, ◌<◌, All, length};
+ghost use Rattle.std.specs.Prelude.{◌<◌, All, length};
 ghost use Rattle.esr_items.specs.Values.{IsValue};
-ghost use Rattle.esr_stream.specs.Reads.{AreReadsInRange};
 
-use crate::reads::{OFFSET, raised_cost};
-use esr_history::History;
+use crate::query::AuditedQuery;
+use crate::reads::OFFSET;
 use esr_items::{ItemId, Metric};
 use esr_order::Access;
 use std::alloc::{AllocError, Global};
@@ -49,6 +48,14 @@ pub struct Version {
     pub overwriter: u16,
 }
 
+/// An unused version, without an amount.
+const UNUSED: Version = Version {
+    amount: 0,
+    link: NONE << 1,
+    overwritten_writer: NOBODY,
+    overwriter: NOBODY,
+};
+
 impl Version {
     /// Returns the id of the version that it overwrites, or `NONE`.
     pub fn overwritten(self) -> u32 {
@@ -61,45 +68,23 @@ impl Version {
         self.link & 1 == 1
     }
 
-    /// Returns the version without an amount, as if it overwrote no version.
-    fn without_link(self) -> Version {
-        Version {
-            amount: 0,
-            link: link_to(NONE),
-            overwritten_writer: NOBODY,
-            overwriter: NOBODY,
-        }
-    }
-
     /// Returns the version with another amount.
     fn with_amount(self, amount: u64) -> Version {
-        Version {
-            amount,
-            link: self.link,
-            overwritten_writer: self.overwritten_writer,
-            overwriter: self.overwriter,
-        }
+        Version { amount, ..self }
     }
 
     /// Returns the version with the fact whether the version that it overwrites has residual capacity.
     fn with_residual(self, has_residual: bool) -> Version {
         let residual = if has_residual { 1 } else { 0 };
         Version {
-            amount: self.amount,
             link: (self.link >> 1 << 1) | residual,
-            overwritten_writer: self.overwritten_writer,
-            overwriter: self.overwriter,
+            ..self
         }
     }
 
     /// Returns the version with its overwriter.
     fn with_overwriter(self, overwriter: u16) -> Version {
-        Version {
-            amount: self.amount,
-            link: self.link,
-            overwritten_writer: self.overwritten_writer,
-            overwriter,
-        }
+        Version { overwriter, ..self }
     }
 }
 
@@ -155,29 +140,20 @@ pub fn to_u16_or_nobody(i: usize) -> u16 {
 }
 
 impl ProposedAmounts {
-    /// Returns the versions before all updates, with capacity for the versions of this many updates.
+    /// Returns the versions before all updates, with capacity for those of the updates.
     pub fn opening<M: Metric>(
         alloc: Global,
-        history: &History<M>,
-        values_read: &[Vec<i64>],
-        updates: usize,
-    ) -> Result<ProposedAmounts, AllocError>
-        requires list_per_item { length values_read.now ≡ length history.now.schedule.opening }
-        requires reads_in_range { AreReadsInRange values_read.now }
-    {
-        let capacity = history.log().len().saturating_add(history.items() as usize);
+        query: &AuditedQuery<M>,
+    ) -> Result<ProposedAmounts, AllocError> {
+        let items = query.items() as usize;
+        let capacity = query.history().log().len().saturating_add(items);
         let mut amounts = ProposedAmounts {
             versions: Vec::with_capacity(alloc, capacity)?,
-            starts: Vec::with_capacity(alloc, updates.saturating_add(1))?,
-            current: Vec::with_capacity(alloc, history.items() as usize)?,
+            starts: Vec::with_capacity(alloc, query.update_count().saturating_add(1))?,
+            current: Vec::with_capacity(alloc, items)?,
         };
-        for x in 0..history.items() {
-            let cost = raised_cost(
-                history.metric(),
-                values_read,
-                ItemId(x),
-                history.opening(ItemId(x)),
-            );
+        for x in 0..query.items() {
+            let cost = query.opening_cost(ItemId(x));
             amounts.push_version(NONE, NOBODY, 0)?;
             amounts.current.push(CurrentVersion {
                 cost,
@@ -208,10 +184,7 @@ impl ProposedAmounts {
 
     /// Returns the versions from an update on.
     pub fn versions_from(&self, update: usize) -> &[Version] {
-        let first = match self.starts.get(update) {
-            Some(first) => *first as usize,
-            None => self.versions.len(),
-        };
+        let first = self.starts.get(update).copied().unwrap_or(NONE) as usize;
         if first <= self.versions.len() {
             &self.versions[first..]
         } else {
@@ -222,10 +195,8 @@ impl ProposedAmounts {
     /// Returns the versions of an update.
     pub fn versions_of(&self, update: u16) -> &[Version] {
         let first = self.first_version(update) as usize;
-        let end = match self.starts.get((update as usize).saturating_add(1)) {
-            Some(end) => *end as usize,
-            None => first,
-        };
+        let next = (update as usize).saturating_add(1);
+        let end = self.starts.get(next).copied().unwrap_or(NONE) as usize;
         if first <= end && end <= self.versions.len() {
             &self.versions[first..end]
         } else {
@@ -235,37 +206,24 @@ impl ProposedAmounts {
 
     /// Returns the id of the first version of an update.
     pub fn first_version(&self, update: u16) -> u32 {
-        match self.starts.get(update as usize) {
-            Some(id) => *id,
-            None => NONE,
-        }
+        self.starts.get(update as usize).copied().unwrap_or(NONE)
     }
 
     /// Returns the version with an id.
     pub fn version(&self, id: u32) -> Version {
-        match self.versions.get(id as usize) {
-            Some(version) => *version,
-            None => Version {
-                amount: 0,
-                link: link_to(NONE),
-                overwritten_writer: NOBODY,
-                overwriter: NOBODY,
-            },
-        }
+        self.versions.get(id as usize).copied().unwrap_or(UNUSED)
     }
 
     /// Returns the current version of an item.
     fn current_version(&self, x: ItemId) -> CurrentVersion {
-        match self.current.get(x.0 as usize) {
-            Some(current) => *current,
-            None => CurrentVersion {
-                cost: 0,
-                amount: 0,
-                id: NONE,
-                overwriting: NONE,
-                neighbor: NOBODY,
-            },
-        }
+        let missing = CurrentVersion {
+            cost: 0,
+            amount: 0,
+            id: NONE,
+            overwriting: NONE,
+            neighbor: NOBODY,
+        };
+        self.current.get(x.0 as usize).copied().unwrap_or(missing)
     }
 
     fn set_version(&mut self, id: u32, version: Version) {
@@ -307,7 +265,7 @@ impl ProposedAmounts {
         }
         // the same update has written the item before; that write no longer counts
         let before = self.version(current.id);
-        self.set_version(current.id, before.without_link());
+        self.set_version(current.id, UNUSED);
         self.push_version(
             before.overwritten(),
             before.overwritten_writer,
@@ -318,13 +276,11 @@ impl ProposedAmounts {
     /// Appends the accesses of an update.
     pub fn push_update<M: Metric>(
         &mut self,
-        metric: &M,
-        values_read: &[Vec<i64>],
+        query: &AuditedQuery<M>,
         accesses: &[Access],
         update: u16,
     ) -> Result<(), AllocError>
-        requires reads_in_range { AreReadsInRange values_read.now }
-        requires items_in_range { All (λ a. a.item.0 < length values_read.now) accesses.now }
+        requires items_in_range { All (λ a. a.item.0 < length query.now.schedule.opening) accesses.now }
         requires values_in_range { All (λ a. IsValue a.value) accesses.now }
     {
         let first_version = to_u32_or_max(self.versions.len());
@@ -332,7 +288,7 @@ impl ProposedAmounts {
         let mut id = first_version;
         for access in accesses {
             if access.writes {
-                let cost = raised_cost(metric, values_read, access.item, access.value);
+                let cost = query.cost(access.item, access.value);
                 self.push_write(access.item, cost, update, first_version, id)?;
             } else {
                 self.push_version(NONE, NOBODY, 0)?;
@@ -349,11 +305,10 @@ impl ProposedAmounts {
         for x in 0..self.current.len() {
             let current = self.current[x];
             self.current[x] = CurrentVersion {
-                cost: current.cost,
                 amount: current.cost,
-                id: current.id,
                 overwriting: NONE,
                 neighbor: NOBODY,
+                ..current
             };
         }
         Ok(())
@@ -381,13 +336,10 @@ impl ProposedAmounts {
             id = id.saturating_sub(1);
             let version = self.version(id);
             if version.overwritten() != NONE {
-                sums = Sums {
-                    written_amounts: sums
-                        .written_amounts
-                        .saturating_add(self.current_version(access.item).amount),
-                    overwritten_costs: sums.overwritten_costs.saturating_add(version.amount),
-                    count: sums.count.saturating_add(1),
-                };
+                let amount = self.current_version(access.item).amount;
+                sums.written_amounts = sums.written_amounts.saturating_add(amount);
+                sums.overwritten_costs = sums.overwritten_costs.saturating_add(version.amount);
+                sums.count = sums.count.saturating_add(1);
             }
         }
         sums
@@ -491,16 +443,7 @@ impl ProposedAmounts {
     pub fn add_to_current(&mut self, x: ItemId, more: u64) {
         let current = self.current_version(x);
         let amount = current.amount.saturating_add(more);
-        self.set_current(
-            x,
-            CurrentVersion {
-                cost: current.cost,
-                amount,
-                id: current.id,
-                overwriting: current.overwriting,
-                neighbor: current.neighbor,
-            },
-        );
+        self.set_current(x, CurrentVersion { amount, ..current });
         self.set_residual(current.overwriting, amount < current.cost);
     }
 

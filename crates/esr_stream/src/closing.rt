@@ -4,17 +4,17 @@
 //! pass records the items that the marked updates visited so far, which are later in commit order, have read and written.
 ghost use Rattle.std.specs.Prelude.{◌≡◌, ◌<◌, ◌||◌, ℕ, ℤ, All, IfOk, false, length, map, true};
 ghost use Rattle.std.specs.List.{list_any};
-ghost use Rattle.esr_history.specs.Queries.{updates_committed_before, must};
-ghost use Rattle.esr_order.specs.Index.{IsWholeIndexOf};
+ghost use Rattle.esr_history.specs.Queries.{must};
 ghost use Rattle.esr_order.specs.Placements.{IsClosed};
 ghost use Rattle.esr_order.specs.BackwardSearch.{conflicts_with, is_access, marked};
 ghost use Rattle.esr_bound.specs.Amounts.{AreForced, among_marked};
 ghost use Rattle.esr_stream.specs.Closing.{IsAdded, seen_later};
 ghost use Rattle.esr_stream.specs.Passes.{IsPrefixMarked, StayMarked};
+ghost use Rattle.esr_stream.specs.Query.{updates_of};
 
-use esr_history::{History, TxnId};
+use crate::query::AuditedQuery;
 use esr_items::Metric;
-use esr_order::{Access, Index};
+use esr_order::Access;
 use std::alloc::{AllocError, Global};
 
 /// Returns the flag at a position, `false` past the end.
@@ -120,30 +120,25 @@ fn has_added(added: bool, is_member: bool, was_member: bool) -> bool {
 /// An allocation failed.
 pub fn close<M: Metric>(
     alloc: Global,
-    history: &History<M>,
-    index: &Index,
-    updates: &[TxnId],
+    query: &AuditedQuery<M>,
     from: usize,
     marks: &mut [bool],
-    q: TxnId,
 ) -> Result<bool, AllocError>
-    requires index { IsWholeIndexOf history.now.schedule.entries index.now }
-    requires updates { map (λ t. t.0) updates.now ≡ updates_committed_before history.now.schedule q.0 }
-    requires marks { length marks.old ≡ length updates.now }
+    requires marks { length marks.old ≡ length (updates_of query.now) }
     ensures len { length marks.new ≡ length marks.old }
     ensures stay { StayMarked marks.old marks.new }
     ensures forced { IfOk result (λ _. (n worth : ℕ) (C : ℕ → ℤ → ℕ)
-        → AreForced n C history.now.schedule q.0 worth marks.old
-        → AreForced n C history.now.schedule q.0 worth marks.new) }
-    ensures closed { IfOk result (λ _. IsPrefixMarked (length (must history.now.schedule q.0)) marks.old
-        → IsPrefixMarked from marks.old → IsClosed history.now.schedule q.0 (among_marked (updates_committed_before history.now.schedule q.0) marks.new)) }
+        → AreForced n C query.now.schedule query.now.query worth marks.old
+        → AreForced n C query.now.schedule query.now.query worth marks.new) }
+    ensures closed { IfOk result (λ _. IsPrefixMarked (length (must query.now.schedule query.now.query)) marks.old
+        → IsPrefixMarked from marks.old → IsClosed query.now.schedule query.now.query (among_marked (updates_of query.now) marks.new)) }
 {
-    let _invariant = history.log(); // brings the invariant into the proof
-    let mut later = no_later(alloc, history.items())?;
+    let _invariant = query.history(); // brings the invariant into the proof
+    let mut later = no_later(alloc, query.items())?;
     let mut list = Vec::new(alloc);
     let mut added = false;
-    for i in (from..updates.len()).rev() {
-        let row = index.accesses_of(history, updates[i], &mut list)?;
+    for i in (from..query.update_count()).rev() {
+        let row = query.accesses(i, &mut list)?;
         let is_member = later.is_member(row, marks[i]);
         added = has_added(added, is_member, marks[i]);
         marks[i] = is_member;

@@ -4,11 +4,10 @@ ghost use Rattle.std.specs.List.{list_any};
 ghost use Rattle.esr_items.specs.Values.{IsValue};
 ghost use Rattle.esr_order.specs.declared.accesses.Access.{Access as AccessValue};
 ghost use Rattle.esr_stream.specs.Passes.{AreStates, IsUpdateApplied, ItemState as StateValue, amounts_sum, as_covered, costs_sum, has_slack_at};
-ghost use Rattle.esr_stream.specs.Reads.{AreReadsInRange, raised};
+ghost use Rattle.esr_stream.specs.Query.{cost_in};
 
 use crate::amounts::Version;
-use crate::reads::raised_cost;
-use esr_history::History;
+use crate::query::AuditedQuery;
 use esr_items::{ItemId, Metric};
 use esr_order::Access;
 use std::alloc::{AllocError, Global};
@@ -26,10 +25,7 @@ pub struct ItemState {
 
 /// Returns the amount of a version, 0 past the end.
 fn amount_at(versions: &[Version], id: usize) -> u64 {
-    match versions.get(id) {
-        Some(version) => version.amount,
-        None => 0,
-    }
+    versions.get(id).map_or(0, |version| version.amount)
 }
 
 /// Returns the states of the items before all updates.
@@ -39,23 +35,15 @@ fn amount_at(versions: &[Version], id: usize) -> u64 {
 /// An allocation failed.
 pub fn opening_states<M: Metric>(
     alloc: Global,
-    history: &History<M>,
-    values_read: &[Vec<i64>],
+    query: &AuditedQuery<M>,
     amounts: &[Version],
 ) -> Result<Vec<ItemState>, AllocError>
-    requires list_per_item { length values_read.now ≡ length history.now.schedule.opening }
-    requires reads_in_range { AreReadsInRange values_read.now }
-    ensures { IfOk result (λ states. (q : ℕ) (marks : List Bool)
-        → AreStates (raised (M.distance_by history.now.schedule.weights) values_read.now) history.now.schedule q 0 marks states.items) }
+    ensures { IfOk result (λ states. (marks : List Bool)
+        → AreStates (cost_in M.distance_by query.now) query.now.schedule query.now.query 0 marks states.items) }
 {
-    let mut states = Vec::with_capacity(alloc, history.items() as usize)?;
-    for x in 0..history.items() {
-        let cost = raised_cost(
-            history.metric(),
-            values_read,
-            ItemId(x),
-            history.opening(ItemId(x)),
-        );
+    let mut states = Vec::with_capacity(alloc, query.items() as usize)?;
+    for x in 0..query.items() {
+        let cost = query.opening_cost(ItemId(x));
         states.push(ItemState {
             cost,
             amount: amount_at(amounts, x as usize).min(cost),
@@ -105,25 +93,23 @@ struct Moved {
 
 /// Applies a write to the state of its item.
 fn apply_write<M: Metric>(
-    metric: &M,
-    values_read: &[Vec<i64>],
+    query: &AuditedQuery<M>,
     states: &mut [ItemState],
     access: Access,
     amount: u64,
     marked: bool,
 ) -> Moved
-    requires list_per_item { length values_read.now ≡ length states.old }
-    requires reads_in_range { AreReadsInRange values_read.now }
+    requires len { length states.old ≡ length query.now.schedule.opening }
     requires item { access.item.0 < length states.old }
     requires value { IsValue access.value }
     requires writes { access.writes ≡ true }
     ensures { (row : List AccessValue) (old : List StateValue) (before after : ℕ)
-        → IsUpdateApplied (raised (M.distance_by (M.weights metric.now)) values_read.now) marked row old states.old before after
-        → IsUpdateApplied (raised (M.distance_by (M.weights metric.now)) values_read.now) marked (row ++ access ∷ []) old states.new
+        → IsUpdateApplied (cost_in M.distance_by query.now) marked row old states.old before after
+        → IsUpdateApplied (cost_in M.distance_by query.now) marked (row ++ access ∷ []) old states.new
         (before + result.before) (after + result.after) }
 {
     let x = access.item.0 as usize;
-    let cost = raised_cost(metric, values_read, access.item, access.value);
+    let cost = query.cost(access.item, access.value);
     let before = states[x].amount;
     let lowered = amount.min(cost);
     states[x] = ItemState {
@@ -140,20 +126,18 @@ fn apply_write<M: Metric>(
 /// Applies the accesses of an update to the states of the items. Returns whether the sum of the amounts does not decrease,
 /// or `None` if a sum does not fit.
 fn apply_row<M: Metric>(
-    metric: &M,
-    values_read: &[Vec<i64>],
+    query: &AuditedQuery<M>,
     states: &mut [ItemState],
     row: &[Access],
     amounts: &[Version],
     marked: bool,
 ) -> Option<bool>
-    requires list_per_item { length values_read.now ≡ length states.old }
-    requires reads_in_range { AreReadsInRange values_read.now }
-    requires row { All (λ a. a.item.0 < length states.old) row.now }
+    requires len { length states.old ≡ length query.now.schedule.opening }
+    requires row { All (λ a. a.item.0 < length query.now.schedule.opening) row.now }
     requires values { All (λ a. IsValue a.value) row.now }
     ensures len { length states.new ≡ length states.old }
     ensures row { IfSome result (λ keeps. (before : ℕ) × (after : ℕ)
-        × IsUpdateApplied (raised (M.distance_by (M.weights metric.now)) values_read.now) marked row.now states.old states.new before after
+        × IsUpdateApplied (cost_in M.distance_by query.now) marked row.now states.old states.new before after
         × (keeps ≡ true → before ≤ after)) }
 {
     let mut before = 0u64;
@@ -162,7 +146,7 @@ fn apply_row<M: Metric>(
         let access = row[j];
         if access.writes {
             let amount = amount_at(amounts, j);
-            let moved = apply_write(metric, values_read, states, access, amount, marked);
+            let moved = apply_write(query, states, access, amount, marked);
             before = add(before, moved.before)?;
             after = add(after, moved.after)?;
         }
@@ -172,21 +156,19 @@ fn apply_row<M: Metric>(
 
 /// Applies the accesses of an update. Returns `false` if a sum does not fit.
 pub fn fits<M: Metric>(
-    metric: &M,
-    values_read: &[Vec<i64>],
+    query: &AuditedQuery<M>,
     states: &mut [ItemState],
     row: &[Access],
     amounts: &[Version],
 ) -> bool
-    requires list_per_item { length values_read.now ≡ length states.old }
-    requires reads_in_range { AreReadsInRange values_read.now }
-    requires row { All (λ a. a.item.0 < length states.old) row.now }
+    requires len { length states.old ≡ length query.now.schedule.opening }
+    requires row { All (λ a. a.item.0 < length query.now.schedule.opening) row.now }
     requires values { All (λ a. IsValue a.value) row.now }
     ensures len { length states.new ≡ length states.old }
     ensures row { result ≡ true → (before : ℕ) × (after : ℕ)
-        × IsUpdateApplied (raised (M.distance_by (M.weights metric.now)) values_read.now) true row.now states.old states.new before after }
+        × IsUpdateApplied (cost_in M.distance_by query.now) true row.now states.old states.new before after }
 {
-    match apply_row(metric, values_read, states, row, amounts, true) {
+    match apply_row(query, states, row, amounts, true) {
         Some(_) => true,
         None => false,
     }
@@ -194,23 +176,21 @@ pub fn fits<M: Metric>(
 
 /// Applies the accesses of an update. Returns `false` if the sum of the amounts decreases or does not fit.
 pub fn steps<M: Metric>(
-    metric: &M,
-    values_read: &[Vec<i64>],
+    query: &AuditedQuery<M>,
     states: &mut [ItemState],
     row: &[Access],
     amounts: &[Version],
     marked: bool,
 ) -> bool
-    requires list_per_item { length values_read.now ≡ length states.old }
-    requires reads_in_range { AreReadsInRange values_read.now }
-    requires row { All (λ a. a.item.0 < length states.old) row.now }
+    requires len { length states.old ≡ length query.now.schedule.opening }
+    requires row { All (λ a. a.item.0 < length query.now.schedule.opening) row.now }
     requires values { All (λ a. IsValue a.value) row.now }
     ensures len { length states.new ≡ length states.old }
     ensures row { result ≡ true → (before : ℕ) × (after : ℕ)
-        × IsUpdateApplied (raised (M.distance_by (M.weights metric.now)) values_read.now) marked row.now states.old states.new before after
+        × IsUpdateApplied (cost_in M.distance_by query.now) marked row.now states.old states.new before after
         × (before ≤ after) }
 {
-    match apply_row(metric, values_read, states, row, amounts, marked) {
+    match apply_row(query, states, row, amounts, marked) {
         Some(keeps) => keeps,
         None => false,
     }
@@ -218,23 +198,21 @@ pub fn steps<M: Metric>(
 
 /// Applies the accesses of an update, if it is marked. Returns `false` if a sum does not fit.
 pub fn fits_if<M: Metric>(
-    metric: &M,
-    values_read: &[Vec<i64>],
+    query: &AuditedQuery<M>,
     states: &mut [ItemState],
     row: &[Access],
     marked: bool,
 ) -> bool
-    requires list_per_item { length values_read.now ≡ length states.old }
-    requires reads_in_range { AreReadsInRange values_read.now }
-    requires row { All (λ a. a.item.0 < length states.old) row.now }
+    requires len { length states.old ≡ length query.now.schedule.opening }
+    requires row { All (λ a. a.item.0 < length query.now.schedule.opening) row.now }
     requires values { All (λ a. IsValue a.value) row.now }
     ensures len { length states.new ≡ length states.old }
     ensures member { result ≡ true → marked ≡ true → (before : ℕ) × (after : ℕ)
-        × IsUpdateApplied (raised (M.distance_by (M.weights metric.now)) values_read.now) true row.now states.old states.new before after }
+        × IsUpdateApplied (cost_in M.distance_by query.now) true row.now states.old states.new before after }
     ensures other { marked ≡ false → states.new ≡ states.old }
 {
     if marked {
-        fits(metric, values_read, states, row, &[])
+        fits(query, states, row, &[])
     } else {
         true
     }
@@ -251,9 +229,8 @@ pub fn covered_copy(alloc: Global, states: &[ItemState]) -> Result<Vec<ItemState
     states
         .iter()
         .map(|state| ItemState {
-            cost: state.cost,
-            amount: state.amount,
             covered: true,
+            ..*state
         })
         .collect(alloc)
 }

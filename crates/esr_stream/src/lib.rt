@@ -27,6 +27,7 @@ mod closing;
 mod items;
 mod least;
 mod pass;
+mod query;
 mod reads;
 mod rounds;
 mod search;

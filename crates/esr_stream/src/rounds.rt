@@ -3,19 +3,17 @@
 //! A round starts at the first update that was not marked when the previous round started, because its pass leaves the states
 //! at that position. Rejected: all rounds from the same position, which visits the marked updates after it in each round.
 ghost use Rattle.std.specs.Prelude.{◌≡◌, ◌≤◌, ◌<◌, ℕ, Bool, List, IfOk, IfSome, length, map, nat_lt, true};
-ghost use Rattle.esr_history.specs.Queries.{must, updates_committed_before};
-ghost use Rattle.esr_order.specs.Index.{IsWholeIndexOf};
+ghost use Rattle.esr_history.specs.Queries.{must};
 ghost use Rattle.esr_bound.specs.Amounts.{AreForced, mark_at};
 ghost use Rattle.esr_stream.specs.Passes.{IsPrefixMarked, AreForcedAndClosed, AreStates, IsPassInvariant, StayMarked, amounts_sum};
-ghost use Rattle.esr_stream.specs.Reads.{AreReadsInRange, raised};
+ghost use Rattle.esr_stream.specs.Query.{cost_in, updates_of};
 
 use crate::amounts::ProposedAmounts;
 use crate::closing::{close, is_marked};
 use crate::items::{ItemState, covered_copy, sum_of};
 use crate::pass::pass;
-use esr_history::{History, TxnId};
+use crate::query::AuditedQuery;
 use esr_items::Metric;
-use esr_order::Index;
 use std::alloc::{AllocError, Global};
 
 /// The maximum number of rounds in `mark_least`.
@@ -63,70 +61,34 @@ pub struct RoundEnd {
 /// `None` if an update decreases the sum of the amounts.
 fn pass_with_checkpoint<M: Metric>(
     alloc: Global,
-    history: &History<M>,
-    index: &Index,
-    updates: &[TxnId],
+    query: &AuditedQuery<M>,
     from: usize,
     checkpoint: usize,
-    values_read: &[Vec<i64>],
     proposed: &ProposedAmounts,
     states: &mut [ItemState],
     marks: &mut [bool],
-    q: TxnId,
 ) -> Result<Option<Vec<ItemState>>, AllocError>
-    requires index { IsWholeIndexOf history.now.schedule.entries index.now }
-    requires list_per_item { length values_read.now ≡ length history.now.schedule.opening }
-    requires reads_in_range { AreReadsInRange values_read.now }
-    requires updates { map (λ t. t.0) updates.now ≡ updates_committed_before history.now.schedule q.0 }
     requires from_le_checkpoint { from ≤ checkpoint }
-    requires checkpoint_le_len { checkpoint ≤ length updates.now }
-    requires states { length states.old ≡ length history.now.schedule.opening }
-    requires marks { length marks.old ≡ length updates.now }
+    requires checkpoint_le_len { checkpoint ≤ length (updates_of query.now) }
+    requires states { length states.old ≡ length query.now.schedule.opening }
+    requires marks { length marks.old ≡ length (updates_of query.now) }
     ensures len { length marks.new ≡ length marks.old }
     ensures stay { StayMarked marks.old marks.new }
     ensures pass_invariant { IfOk result (λ found. IfSome found (λ _. (worth : ℕ) (seeds : List Bool)
-        → IsPassInvariant (length history.now.schedule.opening) (raised (M.distance_by history.now.schedule.weights) values_read.now)
-        history.now.schedule q.0 worth from seeds marks.old states.old
-        → IsPassInvariant (length history.now.schedule.opening) (raised (M.distance_by history.now.schedule.weights) values_read.now)
-        history.now.schedule q.0 worth (length updates.now) seeds marks.new states.new)) }
+        → IsPassInvariant (length query.now.schedule.opening) (cost_in M.distance_by query.now) query.now.schedule query.now.query worth from seeds marks.old states.old
+        → IsPassInvariant (length query.now.schedule.opening) (cost_in M.distance_by query.now) query.now.schedule query.now.query worth (length (updates_of query.now)) seeds marks.new states.new)) }
     ensures checkpoint { IfOk result (λ found. IfSome found (λ kept. (worth : ℕ) (seeds ms : List Bool)
-        → IsPassInvariant (length history.now.schedule.opening) (raised (M.distance_by history.now.schedule.weights) values_read.now)
-        history.now.schedule q.0 worth from seeds marks.old states.old
+        → IsPassInvariant (length query.now.schedule.opening) (cost_in M.distance_by query.now) query.now.schedule query.now.query worth from seeds marks.old states.old
         → IsPrefixMarked checkpoint ms
-        → AreStates (raised (M.distance_by history.now.schedule.weights) values_read.now) history.now.schedule q.0 checkpoint ms
-        kept.items)) }
+        → AreStates (cost_in M.distance_by query.now) query.now.schedule query.now.query checkpoint ms kept.items)) }
 {
-    let has_passed_first = pass(
-        alloc,
-        history,
-        index,
-        updates,
-        from,
-        checkpoint,
-        values_read,
-        proposed,
-        states,
-        marks,
-        q,
-    )?;
+    let has_passed_first = pass(alloc, query, from, checkpoint, proposed, states, marks)?;
     if !has_passed_first {
         return Ok(None);
     }
     let kept = covered_copy(alloc, states)?;
-    let count = updates.len();
-    let has_passed_second = pass(
-        alloc,
-        history,
-        index,
-        updates,
-        checkpoint,
-        count,
-        values_read,
-        proposed,
-        states,
-        marks,
-        q,
-    )?;
+    let count = query.update_count();
+    let has_passed_second = pass(alloc, query, checkpoint, count, proposed, states, marks)?;
     if !has_passed_second {
         return Ok(None);
     }
@@ -141,60 +103,36 @@ fn pass_with_checkpoint<M: Metric>(
 /// An allocation failed.
 pub fn round<M: Metric>(
     alloc: Global,
-    history: &History<M>,
-    index: &Index,
-    updates: &[TxnId],
+    query: &AuditedQuery<M>,
     from: usize,
     checkpoint: usize,
-    values_read: &[Vec<i64>],
     proposed: &ProposedAmounts,
     start_states: &[ItemState],
     marks: &mut [bool],
-    q: TxnId,
 ) -> Result<Option<RoundEnd>, AllocError>
-    requires index { IsWholeIndexOf history.now.schedule.entries index.now }
-    requires list_per_item { length values_read.now ≡ length history.now.schedule.opening }
-    requires reads_in_range { AreReadsInRange values_read.now }
-    requires updates { map (λ t. t.0) updates.now ≡ updates_committed_before history.now.schedule q.0 }
-    requires mandatory_within { length (must history.now.schedule q.0) ≤ from }
+    requires mandatory_within { length (must query.now.schedule query.now.query) ≤ from }
     requires from_le_checkpoint { from ≤ checkpoint }
-    requires checkpoint_le_len { checkpoint ≤ length updates.now }
-    requires marks { length marks.old ≡ length updates.now }
+    requires checkpoint_le_len { checkpoint ≤ length (updates_of query.now) }
+    requires marks { length marks.old ≡ length (updates_of query.now) }
     requires prefix_marked { IsPrefixMarked from marks.old }
     requires start_states { (ms : List Bool) → IsPrefixMarked from ms
-        → AreStates (raised (M.distance_by history.now.schedule.weights) values_read.now) history.now.schedule q.0 from ms
-        start_states.now }
+        → AreStates (cost_in M.distance_by query.now) query.now.schedule query.now.query from ms start_states.now }
     ensures len { length marks.new ≡ length marks.old }
     ensures stay { StayMarked marks.old marks.new }
     ensures forced_and_closed { IfOk result (λ found. IfSome found (λ _. (worth : ℕ) → worth ≤ amounts_sum start_states.now
-        → AreForced (length history.now.schedule.opening) (raised (M.distance_by history.now.schedule.weights) values_read.now)
-        history.now.schedule q.0 worth marks.old
-        → AreForcedAndClosed (length history.now.schedule.opening) (raised (M.distance_by history.now.schedule.weights) values_read.now)
-        history.now.schedule q.0 worth marks.new)) }
+        → AreForced (length query.now.schedule.opening) (cost_in M.distance_by query.now) query.now.schedule query.now.query worth marks.old
+        → AreForcedAndClosed (length query.now.schedule.opening) (cost_in M.distance_by query.now) query.now.schedule query.now.query worth marks.new)) }
     ensures checkpoint { IfOk result (λ found. IfSome found (λ end. (ms : List Bool) → IsPrefixMarked checkpoint ms
-        → AreStates (raised (M.distance_by history.now.schedule.weights) values_read.now) history.now.schedule q.0 checkpoint ms
-        end.checkpoint_states.items)) }
+        → AreStates (cost_in M.distance_by query.now) query.now.schedule query.now.query checkpoint ms end.checkpoint_states.items)) }
 {
-    let _invariant = history.log(); // brings the invariant into the proof
+    let _invariant = query.history(); // brings the invariant into the proof
     let mut states = copy_of(alloc, start_states)?;
-    let found = pass_with_checkpoint(
-        alloc,
-        history,
-        index,
-        updates,
-        from,
-        checkpoint,
-        values_read,
-        proposed,
-        &mut states,
-        marks,
-        q,
-    )?;
+    let found = pass_with_checkpoint(alloc, query, from, checkpoint, proposed, &mut states, marks)?;
     let Some(kept) = found else {
         return Ok(None);
     };
     let prefix = marked_prefix_len(marks, from);
-    let has_added = close(alloc, history, index, updates, prefix, marks, q)?;
+    let has_added = close(alloc, query, prefix, marks)?;
     Ok(Some(RoundEnd {
         has_added,
         checkpoint_states: kept,
@@ -216,42 +154,31 @@ pub struct MarkedPrefix {
 /// An allocation failed.
 pub fn mark_least<M: Metric>(
     alloc: Global,
-    history: &History<M>,
-    index: &Index,
-    updates: &[TxnId],
+    query: &AuditedQuery<M>,
     from: usize,
-    values_read: &[Vec<i64>],
     proposed: &ProposedAmounts,
     start_states: Vec<ItemState>,
     worth: u64,
     needs_round: bool,
     marks: &mut [bool],
-    q: TxnId,
 ) -> Result<Option<MarkedPrefix>, AllocError>
-    requires index { IsWholeIndexOf history.now.schedule.entries index.now }
-    requires list_per_item { length values_read.now ≡ length history.now.schedule.opening }
-    requires reads_in_range { AreReadsInRange values_read.now }
-    requires updates { map (λ t. t.0) updates.now ≡ updates_committed_before history.now.schedule q.0 }
-    requires mandatory_within { length (must history.now.schedule q.0) ≤ from }
-    requires from { from ≤ length updates.now }
-    requires marks { length marks.old ≡ length updates.now }
+    requires mandatory_within { length (must query.now.schedule query.now.query) ≤ from }
+    requires from { from ≤ length (updates_of query.now) }
+    requires marks { length marks.old ≡ length (updates_of query.now) }
     requires prefix_marked { IsPrefixMarked from marks.old }
     requires start_states { (ms : List Bool) → IsPrefixMarked from ms
-        → AreStates (raised (M.distance_by history.now.schedule.weights) values_read.now) history.now.schedule q.0 from ms
-        start_states.items }
-    requires forced_and_closed { AreForcedAndClosed (length history.now.schedule.opening)
-        (raised (M.distance_by history.now.schedule.weights) values_read.now) history.now.schedule q.0 worth marks.old }
+        → AreStates (cost_in M.distance_by query.now) query.now.schedule query.now.query from ms start_states.items }
+    requires forced_and_closed { AreForcedAndClosed (length query.now.schedule.opening)
+        (cost_in M.distance_by query.now) query.now.schedule query.now.query worth marks.old }
     ensures len { length marks.new ≡ length marks.old }
-    ensures within { IfOk result (λ found. IfSome found (λ prefix. prefix.len ≤ length updates.now)) }
+    ensures within { IfOk result (λ found. IfSome found (λ prefix. prefix.len ≤ length (updates_of query.now))) }
     ensures prefix_marked { IfOk result (λ found. IfSome found (λ prefix. IsPrefixMarked prefix.len marks.new)) }
     ensures states { IfOk result (λ found. IfSome found (λ prefix. (ms : List Bool) → IsPrefixMarked prefix.len ms
-        → AreStates (raised (M.distance_by history.now.schedule.weights) values_read.now) history.now.schedule q.0 prefix.len ms
-        prefix.states.items)) }
+        → AreStates (cost_in M.distance_by query.now) query.now.schedule query.now.query prefix.len ms prefix.states.items)) }
     ensures forced_and_closed { IfOk result (λ found. IfSome found (λ _.
-        AreForcedAndClosed (length history.now.schedule.opening) (raised (M.distance_by history.now.schedule.weights) values_read.now)
-        history.now.schedule q.0 worth marks.new)) }
+        AreForcedAndClosed (length query.now.schedule.opening) (cost_in M.distance_by query.now) query.now.schedule query.now.query worth marks.new)) }
 {
-    let _invariant = history.log(); // brings the invariant into the proof
+    let _invariant = query.history(); // brings the invariant into the proof
     let mut needs_round = needs_round;
     let mut len = from;
     let mut states = start_states;
@@ -266,19 +193,7 @@ pub fn mark_least<M: Metric>(
             return Ok(None);
         }
         let checkpoint = marked_prefix_len(marks, len);
-        let found = round(
-            alloc,
-            history,
-            index,
-            updates,
-            len,
-            checkpoint,
-            values_read,
-            proposed,
-            &states,
-            marks,
-            q,
-        )?;
+        let found = round(alloc, query, len, checkpoint, proposed, &states, marks)?;
         let Some(end) = found else {
             return Ok(None);
         };

@@ -1,14 +1,11 @@
 //! Sweeps over the updates in reverse order. If an update has an excess, searches for earlier versions that can take it.
-ghost use Rattle.std.specs.Prelude.{◌≡◌, ◌<◌, All, length};
+ghost use Rattle.std.specs.Prelude.{◌<◌, All, length};
 ghost use Rattle.esr_items.specs.Values.{IsValue};
-ghost use Rattle.esr_order.specs.Index.{IsWholeIndexOf};
-ghost use Rattle.esr_stream.specs.Reads.{AreReadsInRange};
 
 use crate::amounts::{NOBODY, NONE, ProposedAmounts, to_u16_or_nobody};
-use crate::reads::raised_cost;
-use esr_history::{History, TxnId};
+use crate::query::AuditedQuery;
 use esr_items::{ItemId, Metric};
-use esr_order::{Access, Index};
+use esr_order::Access;
 use std::alloc::{AllocError, Global};
 
 /// The number of accesses after which no further search starts, divided by the number of updates.
@@ -61,13 +58,12 @@ struct SearchState {
 }
 
 /// Returns the cost of the version that the `j`-th of these accesses writes, plus the offset, or 0 past the end.
-fn cost_in<M: Metric>(metric: &M, values_read: &[Vec<i64>], accesses: &[Access], j: usize) -> u64
-    requires reads_in_range { AreReadsInRange values_read.now }
-    requires accesses { All (λ a. a.item.0 < length values_read.now) accesses.now }
+fn cost_in<M: Metric>(query: &AuditedQuery<M>, accesses: &[Access], j: usize) -> u64
+    requires accesses { All (λ a. a.item.0 < length query.now.schedule.opening) accesses.now }
     requires values { All (λ a. IsValue a.value) accesses.now }
 {
     if j < accesses.len() {
-        raised_cost(metric, values_read, accesses[j].item, accesses[j].value)
+        query.cost(accesses[j].item, accesses[j].value)
     } else {
         0
     }
@@ -75,29 +71,21 @@ fn cost_in<M: Metric>(metric: &M, values_read: &[Vec<i64>], accesses: &[Access],
 
 /// Returns the cost of the version that a version overwrites, plus the offset, or 0 of an opening value.
 fn overwritten_cost<M: Metric>(
-    history: &History<M>,
-    index: &Index,
-    updates: &[TxnId],
-    values_read: &[Vec<i64>],
+    query: &AuditedQuery<M>,
     amounts: &ProposedAmounts,
     id: u32,
     buffer: &mut Vec<Access>,
-) -> Result<u64, AllocError>
-    requires index { IsWholeIndexOf history.now.schedule.entries index.now }
-    requires list_per_item { length values_read.now ≡ length history.now.schedule.opening }
-    requires reads_in_range { AreReadsInRange values_read.now }
-{
-    let _invariant = history.log(); // brings the invariant into the proof
+) -> Result<u64, AllocError> {
     let version = amounts.version(id);
     let writer = version.overwritten_writer;
-    let Some(txn) = updates.get(writer as usize).copied() else {
+    if query.update_count() <= writer as usize {
         return Ok(0);
-    };
-    let accesses = index.accesses_of(history, txn, buffer)?;
+    }
+    let accesses = query.accesses(writer as usize, buffer)?;
     let j = version
         .overwritten()
         .saturating_sub(amounts.first_version(writer));
-    Ok(cost_in(history.metric(), values_read, accesses, j as usize))
+    Ok(cost_in(query, accesses, j as usize))
 }
 
 impl SearchState {
@@ -175,24 +163,20 @@ impl SearchState {
     /// Returns the end of the next augmenting path of the current search.
     fn next_target<M: Metric>(
         &mut self,
-        history: &History<M>,
-        index: &Index,
-        updates: &[TxnId],
+        query: &AuditedQuery<M>,
         amounts: &ProposedAmounts,
         source: u16,
         buffer: &mut Vec<Access>,
-    ) -> Result<Option<Target>, AllocError>
-        requires index { IsWholeIndexOf history.now.schedule.entries index.now }
-    {
+    ) -> Result<Option<Target>, AllocError> {
         for _ in 0..self.last_search.len() {
             let Some(reached) = self.queue.get(self.head as usize).copied() else {
                 return Ok(None);
             };
             if let Some(id) = self.expand(amounts, source, reached.update)? {
-                let Some(txn) = updates.get(reached.update as usize).copied() else {
+                if query.update_count() <= reached.update as usize {
                     return Ok(None);
-                };
-                let accesses = index.accesses_of(history, txn, buffer)?;
+                }
+                let accesses = query.accesses(reached.update as usize, buffer)?;
                 let j = id.saturating_sub(amounts.first_version(reached.update));
                 return Ok(self.target_at(accesses, j as usize));
             }
@@ -236,19 +220,12 @@ impl SearchState {
     /// Returns the bottleneck of the path from the source to the target, at most `limit`.
     fn bottleneck<M: Metric>(
         &self,
-        history: &History<M>,
-        index: &Index,
-        updates: &[TxnId],
-        values_read: &[Vec<i64>],
+        query: &AuditedQuery<M>,
         amounts: &ProposedAmounts,
         target: Target,
         limit: u64,
         buffer: &mut Vec<Access>,
-    ) -> Result<u64, AllocError>
-        requires index { IsWholeIndexOf history.now.schedule.entries index.now }
-        requires list_per_item { length values_read.now ≡ length history.now.schedule.opening }
-        requires reads_in_range { AreReadsInRange values_read.now }
-    {
+    ) -> Result<u64, AllocError> {
         let mut least = limit;
         let mut i = target.overwriter;
         for _ in 0..self.queue.len() {
@@ -258,15 +235,7 @@ impl SearchState {
             let residual = match reached.arc {
                 ResidualArc::Decrease(id) => amounts.version(id).amount,
                 ResidualArc::Increase(id) => {
-                    let cost = overwritten_cost(
-                        history,
-                        index,
-                        updates,
-                        values_read,
-                        amounts,
-                        id,
-                        buffer,
-                    )?;
+                    let cost = overwritten_cost(query, amounts, id, buffer)?;
                     let overwritten = amounts.version(id).overwritten();
                     cost.saturating_sub(amounts.version(overwritten).amount)
                 }
@@ -280,19 +249,12 @@ impl SearchState {
     /// Augments along the path from the source to the target by an amount.
     fn augment<M: Metric>(
         &self,
-        history: &History<M>,
-        index: &Index,
-        updates: &[TxnId],
-        values_read: &[Vec<i64>],
+        query: &AuditedQuery<M>,
         amounts: &mut ProposedAmounts,
         target: Target,
         amount: u64,
         buffer: &mut Vec<Access>,
-    ) -> Result<(), AllocError>
-        requires index { IsWholeIndexOf history.now.schedule.entries index.now }
-        requires list_per_item { length values_read.now ≡ length history.now.schedule.opening }
-        requires reads_in_range { AreReadsInRange values_read.now }
-    {
+    ) -> Result<(), AllocError> {
         let mut i = target.overwriter;
         for _ in 0..self.queue.len() {
             let Some(reached) = self.reached(i) else {
@@ -301,15 +263,7 @@ impl SearchState {
             match reached.arc {
                 ResidualArc::Decrease(id) => amounts.decrease(id, amount, reached.update),
                 ResidualArc::Increase(id) => {
-                    let cost = overwritten_cost(
-                        history,
-                        index,
-                        updates,
-                        values_read,
-                        amounts,
-                        id,
-                        buffer,
-                    )?;
+                    let cost = overwritten_cost(query, amounts, id, buffer)?;
                     amounts.increase_overwritten(id, amount, cost);
                 }
             }
@@ -322,45 +276,20 @@ impl SearchState {
     /// amount, and skips the update that the path ends at if the path can take no more.
     fn route<M: Metric>(
         &mut self,
-        history: &History<M>,
-        index: &Index,
-        updates: &[TxnId],
-        values_read: &[Vec<i64>],
+        query: &AuditedQuery<M>,
         amounts: &mut ProposedAmounts,
         target: Target,
         excess: u64,
         buffer: &mut Vec<Access>,
-    ) -> Result<u64, AllocError>
-        requires index { IsWholeIndexOf history.now.schedule.entries index.now }
-        requires list_per_item { length values_read.now ≡ length history.now.schedule.opening }
-        requires reads_in_range { AreReadsInRange values_read.now }
-    {
+    ) -> Result<u64, AllocError> {
         let limit = amounts.residual(target.item).min(excess);
-        let amount = self.bottleneck(
-            history,
-            index,
-            updates,
-            values_read,
-            amounts,
-            target,
-            limit,
-            buffer,
-        )?;
+        let amount = self.bottleneck(query, amounts, target, limit, buffer)?;
         if amount < limit {
             self.skip();
         }
         if 0 < amount {
             amounts.add_to_current(target.item, amount);
-            self.augment(
-                history,
-                index,
-                updates,
-                values_read,
-                amounts,
-                target,
-                amount,
-                buffer,
-            )?;
+            self.augment(query, amounts, target, amount, buffer)?;
         }
         Ok(amount)
     }
@@ -369,19 +298,12 @@ impl SearchState {
     /// each path; if it has found any, another one follows, since the paths have opened and closed arcs.
     fn route_excess<M: Metric>(
         &mut self,
-        history: &History<M>,
-        index: &Index,
-        updates: &[TxnId],
-        values_read: &[Vec<i64>],
+        query: &AuditedQuery<M>,
         amounts: &mut ProposedAmounts,
         source: u16,
         excess: u64,
         buffer: &mut Vec<Access>,
-    ) -> Result<(), AllocError>
-        requires index { IsWholeIndexOf history.now.schedule.entries index.now }
-        requires list_per_item { length values_read.now ≡ length history.now.schedule.opening }
-        requires reads_in_range { AreReadsInRange values_read.now }
-    {
+    ) -> Result<(), AllocError> {
         let mut excess = excess;
         let mut found = 0u64;
         self.begin(source)?;
@@ -389,19 +311,10 @@ impl SearchState {
             if excess == 0 || self.visits_left == 0 {
                 return Ok(());
             }
-            let next = self.next_target(history, index, updates, amounts, source, buffer)?;
+            let next = self.next_target(query, amounts, source, buffer)?;
             match next {
                 Some(target) => {
-                    let amount = self.route(
-                        history,
-                        index,
-                        updates,
-                        values_read,
-                        amounts,
-                        target,
-                        excess,
-                        buffer,
-                    )?;
+                    let amount = self.route(query, amounts, target, excess, buffer)?;
                     excess = excess.saturating_sub(amount);
                     found = found.saturating_add(amount);
                 }
@@ -422,34 +335,18 @@ impl SearchState {
 /// Distributes the amounts of the updates from the last one back to the position `first`.
 fn sweep<M: Metric>(
     alloc: Global,
-    history: &History<M>,
-    index: &Index,
-    updates: &[TxnId],
+    query: &AuditedQuery<M>,
     first: usize,
-    values_read: &[Vec<i64>],
     amounts: &mut ProposedAmounts,
-) -> Result<(), AllocError>
-    requires index { IsWholeIndexOf history.now.schedule.entries index.now }
-    requires list_per_item { length values_read.now ≡ length history.now.schedule.opening }
-    requires reads_in_range { AreReadsInRange values_read.now }
-{
-    let mut searches = SearchState::new(alloc, updates.len())?;
+) -> Result<(), AllocError> {
+    let mut searches = SearchState::new(alloc, query.update_count())?;
     let mut buffer = Vec::new(alloc);
-    for i in (first..updates.len()).rev() {
+    for i in (first..query.update_count()).rev() {
         let update = to_u16_or_nobody(i);
-        let accesses = index.accesses_of(history, updates[i], &mut buffer)?;
+        let accesses = query.accesses(i, &mut buffer)?;
         let excess = amounts.distribute(accesses, update);
         if 0 < excess {
-            searches.route_excess(
-                history,
-                index,
-                updates,
-                values_read,
-                amounts,
-                update,
-                excess,
-                &mut buffer,
-            )?;
+            searches.route_excess(query, amounts, update, excess, &mut buffer)?;
         }
     }
     Ok(())
@@ -463,33 +360,17 @@ fn sweep<M: Metric>(
 /// An allocation failed.
 pub fn propose_amounts<M: Metric>(
     alloc: Global,
-    history: &History<M>,
-    index: &Index,
-    updates: &[TxnId],
+    query: &AuditedQuery<M>,
     first: usize,
-    values_read: &[Vec<i64>],
-) -> Result<ProposedAmounts, AllocError>
-    requires index { IsWholeIndexOf history.now.schedule.entries index.now }
-    requires list_per_item { length values_read.now ≡ length history.now.schedule.opening }
-    requires reads_in_range { AreReadsInRange values_read.now }
-{
-    let _invariant = history.log(); // brings the invariant into the proof
+) -> Result<ProposedAmounts, AllocError> {
     let mut buffer = Vec::new(alloc);
-    let mut amounts = ProposedAmounts::opening(alloc, history, values_read, updates.len())?;
-    for i in 0..updates.len() {
-        let accesses = index.accesses_of(history, updates[i], &mut buffer)?;
-        amounts.push_update(history.metric(), values_read, accesses, to_u16_or_nobody(i))?;
+    let mut amounts = ProposedAmounts::opening(alloc, query)?;
+    for i in 0..query.update_count() {
+        let accesses = query.accesses(i, &mut buffer)?;
+        amounts.push_update(query, accesses, to_u16_or_nobody(i))?;
     }
     amounts.init_amounts()?;
-    sweep(
-        alloc,
-        history,
-        index,
-        updates,
-        first,
-        values_read,
-        &mut amounts,
-    )?;
+    sweep(alloc, query, first, &mut amounts)?;
     amounts.store_current();
     Ok(amounts)
 }

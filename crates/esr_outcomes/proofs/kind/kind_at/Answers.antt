@@ -1,4 +1,4 @@
-use Rattle.std.proofs.Common.{◌≡◌, ◌∙◌, ◌-◌, ap, sym, unwrap_or, slice_get, slice_index_or}
+use Rattle.std.proofs.Common.{◌∙◌, ap, sym, unwrap_or, slice_get}
 use Rattle.std.proofs.lemmas.Option.{slice_get_past, unwrap_or-slice_get}
 use Rattle.esr_outcomes.specs.declared.kind.TxnKind.TheVariants.{Update}
 use Rattle.esr_outcomes.proofs.Begun.{kind_there}

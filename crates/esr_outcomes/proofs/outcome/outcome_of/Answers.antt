@@ -1,4 +1,4 @@
-use Rattle.std.proofs.Common.{◌∙◌, ap, sym, arith}
+use Rattle.std.proofs.Common.{◌∙◌, ap, sym}
 use Rattle.esr_items.specs.Weights.{weighted}
 use Rattle.esr_outcomes.specs.Outcomes.{outcome_at}
 use Rattle.esr_outcomes.proofs.Ended.{end_there}

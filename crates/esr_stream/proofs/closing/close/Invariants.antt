@@ -5,7 +5,7 @@ use Rattle.esr_stream.proofs.closing.close.Given as goal
 
 abbrev pub invariant-loop-i : goal.invariant-loop-i
 invariant-loop-i g l = record {
-  read : length l.later.read.items ≡ length l.history.schedule.opening;
-  written : length l.later.written.items ≡ length l.history.schedule.opening;
-  closed : IsClosedFrom l.history.schedule l.fn.q.0 l.i l.fn.marks l.marks (seen_later l.later);
+  read : length l.later.read.items ≡ length l.query.schedule.opening;
+  written : length l.later.written.items ≡ length l.query.schedule.opening;
+  closed : IsClosedFrom l.query.schedule l.query.query l.i l.fn.marks l.marks (seen_later l.later);
 }

@@ -1,8 +1,8 @@
 use Rattle.std.proofs.Common.{◌≡◌, ◌+◌, ℕ, ℤ, pos, Bool, List, ◌∷◌, [], ◌++◌, false, take, get_or, ◌∙◌, sym, subst}
 use Rattle.std.proofs.lemmas.List.{take_more}
 use Rattle.esr_order.specs.declared.accesses.Access.{Access}
-use Rattle.esr_stream.specs.Reads.{raised}
 use Rattle.esr_stream.specs.Passes.{IsUpdateApplied, ItemState}
+use Rattle.esr_stream.specs.Query.{cost_in}
 use Rattle.esr_stream.proofs.RowLaws.{row_read}
 use Rattle.esr_stream.proofs.items.apply_row.Goals as goal
 use Rattle.esr_stream.proofs.items.apply_row.Goals.{then-access+in_ok-before+in_ok-after, else-access}
@@ -18,7 +18,7 @@ no_access = record { value = pos 0; item = record { 0 = 0 }; writes = false }
 
 pub loop-j-preserved : goal.loop-j-preserved
 loop-j-preserved g c =
-    let C = raised (g.M.Metric.distance_by (g.M.Metric.weights c.args.metric.now)) c.args.values_read.now in
+    let C = cost_in g.M.Metric.distance_by c.args.query.now in
     let access : Access = get_or c.args.row.now c.loop-j.j no_access in
     let more : take (c.loop-j.j + 1) c.args.row.now ≡ take c.loop-j.j c.args.row.now ++ access ∷ [] = take_more c.args.row.now c.loop-j.j no_access c.loop-j-test.true in
     elim c.if-access.branch [

@@ -1,13 +1,9 @@
-use Rattle.std.proofs.Common.{◌∙◌, ap, map}
-use Rattle.esr_base.specs.declared.numbers.TxnId.{TxnId}
-use Rattle.esr_order.proofs.Commits.{updates_are}
-use Rattle.esr_order.proofs.Indexes.{index_whole}
+use Rattle.std.proofs.Common.{◌≡◌, IfSome, subst}
+use Rattle.esr_stream.specs.Query.{QueryView}
 use Rattle.esr_stream.proofs.least.least_of.Goals as goal
 
-pub find-requires-clause-updates : goal.find-requires-clause-updates
-find-requires-clause-updates g c =
-    let h = c.args.history.now.schedule in
-    ap (map (λ (t : TxnId). t.0)) c.deref.ensures.value
-    ∙ updates_are h c.args.q.0 c.commits.result.now
-    (ap (map (λ (t : TxnId). t.0)) c.commits.ensures ∙ index_whole h c.args.index.now c.requires.0 c.requires.1)
-    c.in_ok-updates.updates.items c.in_ok-updates.ensures
+pub returns-in-Some : goal.returns-in-Some
+returns-in-Some g c =
+    let schedule : c.in-Some.query.schedule ≡ c.args.history.now.schedule = subst (λ o. IfSome o (λ (a : QueryView). a.schedule ≡ c.args.history.now.schedule)) c.in-Some.is c.in_ok-query.ensures.schedule in
+    let query : c.in-Some.query.query ≡ c.args.q.0 = subst (λ o. IfSome o (λ (a : QueryView). a.query ≡ c.args.q.0)) c.in-Some.is c.in_ok-query.ensures.query in
+    rw (← schedule, ← query) c.find.ensures

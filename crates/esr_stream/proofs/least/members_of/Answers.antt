@@ -2,7 +2,6 @@ use Rattle.std.proofs.Common.{◌≡◌, ◌<◌, ◌∙◌, ◌++◌, ◌∷◌
 use Rattle.std.proofs.lemmas.List.{map-append}
 use Rattle.esr_base.specs.declared.numbers.TxnId.{TxnId}
 use Rattle.esr_history.specs.Queries.{updates_committed_before}
-use Rattle.esr_order.proofs.Gathered.{commits_length}
 use Rattle.esr_order.proofs.Gathering.{no_txn}
 use Rattle.esr_order.proofs.BackwardSearch.{number_at}
 use Rattle.esr_bound.specs.Amounts.{among_marked, mark_at}
@@ -19,23 +18,22 @@ loop-i-init g c = ap (map (λ (t : TxnId). t.0)) c.in_ok-txns.ensures.items
 
 pub loop-i-preserved : goal.loop-i-preserved
 loop-i-preserved g c =
-    let h = c.args.history.now.schedule in
+    let h = c.args.query.now.schedule in
     let d = g.M.Metric.distance_by in
-    let q = c.args.q.0 in
-    let updates = c.args.updates.now in
+    let q = c.args.query.now.query in
+    let updates = c.updates-updates.result.now in
     let marks = c.args.marks.now in
-    let legal = c.log-invariant.ensures.legal in
+    let legal = c.history-invariant.ensures.legal in
     let i = c.loop-i.i in
     let here : i < length updates = c.loop-i-test.true in
-    let inside : i < length (updates_committed_before h q) = omega (arith, here, commits_length d h q legal updates c.requires.updates) in
+    let inside : i < length (updates_committed_before h q) = omega (arith, here, c.updates-updates.ensures.len) in
     let t : TxnId = get_or updates i no_txn in
     ap (map (λ (t : TxnId). t.0)) c.in_ok-push_if.ensures
     ∙ map-append (λ (t : TxnId). t.0) c.loop-i.txns.items (cond (mark_at marks i) (t ∷ []) [])
-    ∙ ap (λ xs. map (λ (t : TxnId). t.0) c.loop-i.txns.items ++ xs) (one_number (mark_at marks i) t ∙ ap (λ u. cond (mark_at marks i) (u ∷ []) []) (number_at updates (updates_committed_before h q) i no_txn c.requires.updates here))
+    ∙ ap (λ xs. map (λ (t : TxnId). t.0) c.loop-i.txns.items ++ xs) (one_number (mark_at marks i) t ∙ ap (λ u. cond (mark_at marks i) (u ∷ []) []) (number_at updates (updates_committed_before h q) i no_txn c.updates-updates.ensures.updates here))
     ∙ members_more d h q legal marks i (map (λ (t : TxnId). t.0) c.loop-i.txns.items) inside c.loop-i.invariant
 
 pub returns : goal.returns
 returns g c =
-    let h = c.args.history.now.schedule in
-    let count = commits_length g.M.Metric.distance_by h c.args.q.0 c.log-invariant.ensures.legal c.args.updates.now c.requires.updates in
-    c.loop-i.invariant ∙ ap (filter (among_marked (updates_committed_before h c.args.q.0) c.args.marks.now)) (take_all c.loop-i.i (updates_committed_before h c.args.q.0) (omega (arith, count)))
+    let h = c.args.query.now.schedule in
+    c.loop-i.invariant ∙ ap (filter (among_marked (updates_committed_before h c.args.query.now.query) c.args.marks.now)) (take_all c.loop-i.i (updates_committed_before h c.args.query.now.query) (omega (arith, c.updates-updates.ensures.len)))

@@ -1,4 +1,4 @@
-use Rattle.std.proofs.Common.{◌≡◌, ◌<◌, ◌∙◌, sym, ap, inl, inr, arith}
+use Rattle.std.proofs.Common.{◌∙◌, sym, ap, inl, inr, arith}
 use Rattle.std.proofs.lemmas.Bool.{cases_eq}
 use Rattle.esr_bound.specs.Amounts.{mark_at}
 use Rattle.esr_stream.proofs.rounds.is_prefix_marked.Goals as goal

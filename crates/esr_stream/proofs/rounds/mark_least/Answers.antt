@@ -1,16 +1,16 @@
-use Rattle.std.proofs.Common.{◌≤◌, ◌∙◌, ℕ, Bool, List, IfSome, length, ap, subst, arith}
+use Rattle.std.proofs.Common.{◌≤◌, ◌∙◌, ℕ, Bool, List, IfSome, length, ap, subst, sym, arith}
 use Rattle.esr_bound.specs.Amounts.{AreForced}
-use Rattle.esr_stream.specs.Reads.{raised}
 use Rattle.esr_stream.specs.Passes.{AreForcedAndClosed, AreStates, IsPrefixMarked, ItemState, amounts_sum}
+use Rattle.esr_stream.specs.Query.{cost_in}
 use Rattle.esr_stream.specs.declared.rounds.RoundEnd.{RoundEnd}
 use Rattle.esr_stream.proofs.rounds.mark_least.Goals as goal
 
 pub loop-round-preserved : goal.loop-round-preserved
 loop-round-preserved g c =
-    let h = c.args.history.now.schedule in
-    let q = c.args.q.0 in
+    let h = c.args.query.now.schedule in
+    let q = c.args.query.now.query in
     let n = length h.opening in
-    let C = raised (g.M.Metric.distance_by h.weights) c.args.values_read.now in
+    let C = cost_in g.M.Metric.distance_by c.args.query.now in
     let len = c.marked_prefix_len-checkpoint.result in
     let states : List ItemState = c.deref-in-loop-round.result.now in
     let low : c.args.worth ≤ amounts_sum states = omega (arith, c.if-sum-worth.false, c.in-Some.ensures, ap (λ (l : List ItemState). amounts_sum l) c.deref.ensures.value, ap (λ (l : List ItemState). amounts_sum l) c.deref-in-loop-round.ensures.value) in
@@ -24,3 +24,8 @@ loop-round-preserved g c =
       states = subst (λ o. IfSome o (λ (e : RoundEnd). (ms : List Bool) → IsPrefixMarked len ms → AreStates C h q len ms e.checkpoint_states.items)) c.in-Some-found.is c.in_ok-found.ensures.checkpoint;
       forced_and_closed = forced_and_closed c.args.worth low c.loop-round.invariant.forced_and_closed.forced;
     }
+
+pub round-requires-clause-start_states : goal.round-requires-clause-start_states
+round-requires-clause-start_states g c = λ ms firsts.
+    let a = c.args.query.now in
+    subst (λ (l : List ItemState). AreStates (cost_in g.M.Metric.distance_by a) a.schedule a.query c.loop-round.len ms l) (sym c.deref-in-loop-round.ensures.value) (c.loop-round.invariant.states ms firsts)

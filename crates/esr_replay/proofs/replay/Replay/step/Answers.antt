@@ -1,10 +1,10 @@
-use Rattle.std.proofs.Common.{◌≡◌, ◌∙◌, ◌+◌, ◌<◌, ◌≤◌, ◌++◌, ◌∷◌, [], ℕ, List, false, true, ap, ap₂, arith, refl, sym, length, Some, slice_get}
+use Rattle.std.proofs.Common.{◌≡◌, ◌∙◌, ◌+◌, ◌<◌, [], ap, ap₂, arith, refl, sym, length}
 use Rattle.std.proofs.lemmas.List.{length_push}
 use Rattle.std.proofs.lemmas.Option.{same_Some, slice_get_within}
 use Rattle.esr_history.specs.declared.event.Entry.{Entry}
 use Rattle.esr_history.specs.Events.{is_refusal}
 use Rattle.esr_history.specs.Machine.{Schedule, extended, reply_to}
-use Rattle.esr_replay.specs.Replays.{Progress, ImportsGrowBy, so_far, until}
+use Rattle.esr_replay.specs.Replays.{Progress, so_far, until}
 use Rattle.esr_replay.proofs.Replaying.{grow_accepted, grow_is, grow_refused, not_refused, until_next}
 use Rattle.esr_replay.proofs.replay.Replay.step.Goals as goal
 
