@@ -2,12 +2,12 @@
 
 ghost use Rattle.esr_bound.specs.Amounts.{LawOfStart, LawOfUpdates, LawOfEnd, LawOfSet};
 
-/// States that the amounts after the updates that the query must see carry their sum for every closed set.
+/// States that the amounts after the updates that the query must see carry their sum less the loans for every closed set.
 pub fn bound_at_start()
     ensures { LawOfStart }
 {}
 
-/// States that an update that does not decrease the sum of the amounts preserves this.
+/// States that an update that does not decrease the sum of the amounts less the loans preserves this.
 pub fn bound_after_update()
     ensures { LawOfUpdates }
 {}

@@ -1,4 +1,4 @@
-//! Lower bounds on the costs of closed sets, from one amount for each version of an item.
+//! Lower bounds on the costs of closed sets, from an amount for each version of an item.
 //!
 //! The least distance of a query is the least cost of a closed set of its updates. A flow of a network shows that no closed
 //! set costs less, but the network has to be built for each query. These laws need neither. Give each version of an item an
@@ -11,10 +11,15 @@
 //! version costs more than the bound, so the next writer of the item is in every set of least cost, provided that all
 //! earlier writers are. Such updates are marked. A marked set that is closed and costs the bound is the smallest set.
 //!
+//! Reads restrict the closed sets further. A closed set that contains a reader of a version contains the writer of the version,
+//! so a reader may *raise* the amount, at most to the cost. A closed set that contains the next writer of the item contains the
+//! reader, so a reader may take a *loan*: it decreases the sum, and the next writer, which replaces the amount, repays it. So
+//! the sum that no update may decrease is that of the amounts less the loans. A reader that raises an amount is in every set of
+//! least cost that contains the earlier writers, and so is a writer that repays the loan of an update in this set.
+//!
 //! An amount belongs to a version and not to an edge between two updates. Rejected: amounts for edges, as in a flow, which
-//! need the pairs of the conflict order and conservation at each update. The reads of updates restrict the closed sets
-//! further, so the bound holds with them, but it can be too low; then another method has to answer. Amounts are natural
-//! numbers. A user that needs amounts below zero adds a constant to every cost (`extra` in `LawOfSet`).
+//! need the pairs of the conflict order and conservation at each update. Amounts are natural numbers. A user that needs amounts
+//! below zero adds a constant to every cost (`extra` in `LawOfSet`).
 #![tactic(auto)]
 
 mod laws;

@@ -10,9 +10,10 @@
 //! The search works in the flow network with all arcs reversed. It goes from an update to the writer of a version that the
 //! update overwrites, if this version has residual capacity (its amount is less than its cost). It also goes from an update to
 //! the overwriter of a version that the update writes, if the amount of this version is positive. Each path carries its
-//! bottleneck or the excess, whichever is less, and the amounts along it change by this much. So at each update strictly between
-//! the ends, the difference between the amounts of the versions that it writes and of those that it overwrites stays the same.
-//! `MAX_VISITS_PER_UPDATE` bounds the work of all searches.
+//! bottleneck or the excess, whichever is less, and the amounts along it change by this much. Two more arcs belong to each read
+//! of an update (`update_reads`): a search goes from the writer of a version to a reader, from a reader to the overwriter, and
+//! back where there is flow. So at each update strictly between the ends, the difference between the amounts of the versions
+//! that it writes and of those that it overwrites stays the same. `MAX_VISITS_PER_UPDATE` bounds the work of all searches.
 //!
 //! A version takes 16 bytes. Until the sweep has passed it, the field `amount` holds the cost of the version that it overwrites;
 //! afterwards, its own amount. So a search computes the costs on its path again. All stored costs and amounts include the
@@ -24,6 +25,7 @@ ghost use Rattle.esr_items.specs.Values.{IsValue};
 
 use crate::query::AuditedQuery;
 use crate::reads::OFFSET;
+use crate::update_reads::UpdateReads;
 use esr_items::{ItemId, Metric};
 use esr_order::Access;
 use std::alloc::{AllocError, Global};
@@ -116,6 +118,8 @@ pub struct ProposedAmounts {
     starts: Vec<u32>,
     /// The current version of each item.
     current: Vec<CurrentVersion>,
+    /// The reads of the updates.
+    pub reads: UpdateReads,
 }
 
 /// Sums over the versions of one update. Each sum includes the offset once for each version.
@@ -151,6 +155,7 @@ impl ProposedAmounts {
             versions: Vec::with_capacity(alloc, capacity)?,
             starts: Vec::with_capacity(alloc, query.update_count().saturating_add(1))?,
             current: Vec::with_capacity(alloc, items)?,
+            reads: UpdateReads::new(alloc),
         };
         for x in 0..query.items() {
             let cost = query.opening_cost(ItemId(x));
@@ -273,6 +278,13 @@ impl ProposedAmounts {
         )
     }
 
+    /// Appends a read, which the update at the position `update` makes of the current version of an item.
+    fn push_read(&mut self, x: ItemId, update: u16, id: u32) -> Result<(), AllocError> {
+        let current = self.current_version(x);
+        self.reads.push(update, current.neighbor, current.id, id)?;
+        self.push_version(NONE, NOBODY, OFFSET)
+    }
+
     /// Appends the accesses of an update.
     pub fn push_update<M: Metric>(
         &mut self,
@@ -285,13 +297,14 @@ impl ProposedAmounts {
     {
         let first_version = to_u32_or_max(self.versions.len());
         self.starts.push(first_version)?;
+        self.reads.begin_update()?;
         let mut id = first_version;
         for access in accesses {
             if access.writes {
                 let cost = query.cost(access.item, access.value);
                 self.push_write(access.item, cost, update, first_version, id)?;
             } else {
-                self.push_version(NONE, NOBODY, 0)?;
+                self.push_read(access.item, update, id)?;
             }
             id = id.saturating_add(1);
         }
@@ -299,9 +312,10 @@ impl ProposedAmounts {
     }
 
     /// Ends the list of versions, and sets the amount of the last version of each item to its cost.
-    pub fn init_amounts(&mut self) -> Result<(), AllocError> {
+    pub fn init_amounts(&mut self, alloc: Global) -> Result<(), AllocError> {
         let end = to_u32_or_max(self.versions.len());
         self.starts.push(end)?;
+        self.reads.link(alloc, self.versions.len())?;
         for x in 0..self.current.len() {
             let current = self.current[x];
             self.current[x] = CurrentVersion {
@@ -320,6 +334,34 @@ impl ProposedAmounts {
             let current = self.current_version(ItemId(x));
             let version = self.version(current.id);
             self.set_version(current.id, version.with_amount(current.amount));
+        }
+    }
+
+    /// Stores the amounts of the reads, and lowers the amounts of the versions by the raises, since each is now the amount
+    /// before all readers.
+    pub fn store_reads(&mut self) {
+        for r in 0..to_u32_or_max(self.reads.reads.len()) {
+            let Some(read) = self.reads.get(r) else {
+                return;
+            };
+            let amount = OFFSET.saturating_add(read.raise).saturating_sub(read.loan);
+            let own = self.version(read.id);
+            self.set_version(read.id, own.with_amount(amount));
+            let version = self.version(read.version);
+            let lowered = version.amount.saturating_sub(read.raise);
+            self.set_version(read.version, version.with_amount(lowered));
+        }
+    }
+
+    /// Notes for each read of an update that the sweep has passed which update overwrites the version.
+    fn pass_reads(&mut self, accesses: &[Access], update: u16) {
+        let mut r = self.reads.first_of_update(update);
+        for access in accesses {
+            if !access.writes {
+                let overwriter = self.current_version(access.item).neighbor;
+                self.reads.set_overwriter(r, overwriter);
+                r = r.saturating_add(1);
+            }
         }
     }
 
@@ -489,12 +531,14 @@ impl ProposedAmounts {
         let sums = self.sums(accesses, first_version);
         if sums.overwritten_costs <= sums.written_amounts {
             self.fill(accesses, first_version, update);
+            self.pass_reads(accesses, update);
             return sums.written_amounts.saturating_sub(sums.overwritten_costs);
         }
         let offsets = sums.count.saturating_mul(OFFSET);
         let net_amount = sums.written_amounts.saturating_sub(offsets);
         let ratio = ratio_of(net_amount, sums.overwritten_costs.saturating_sub(offsets));
         self.share(accesses, first_version, net_amount, ratio, update);
+        self.pass_reads(accesses, update);
         0
     }
 }

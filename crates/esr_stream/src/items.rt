@@ -1,13 +1,14 @@
 //! The state of each item along the updates of a query, and the effect of one update on it.
-ghost use Rattle.std.specs.Prelude.{◌≡◌, ◌≤◌, ◌<◌, ◌&&◌, ◌||◌, ◌+◌, ◌++◌, ◌∷◌, [], ℕ, Bool, List, All, IfOk, IfSome, false, length, map, true};
+ghost use Rattle.std.specs.Prelude.{◌≡◌, ◌≤◌, ◌<◌, ◌&&◌, ◌||◌, ◌⊎◌, ◌+◌, ℤ, ◌++◌, ◌∷◌, [], ℕ, Bool, List, All, IfOk, IfSome, false, length, map, true};
 ghost use Rattle.std.specs.List.{list_any};
 ghost use Rattle.esr_items.specs.Values.{IsValue};
 ghost use Rattle.esr_order.specs.declared.accesses.Access.{Access as AccessValue};
-ghost use Rattle.esr_stream.specs.Passes.{AreStates, IsUpdateApplied, ItemState as StateValue, amounts_sum, as_covered, costs_sum, has_slack_at};
+ghost use Rattle.esr_stream.specs.Passes.{AreStates, HasReadReason, IsReadOf, IsUpdateApplied, ItemState as StateValue, amounts_sum, as_covered, costs_sum, has_slack_at, has_write_reason, is_owed_at, loans_sum, read_amount};
 ghost use Rattle.esr_stream.specs.Query.{cost_in};
 
 use crate::amounts::Version;
 use crate::query::AuditedQuery;
+use crate::reads::OFFSET;
 use esr_items::{ItemId, Metric};
 use esr_order::Access;
 use std::alloc::{AllocError, Global};
@@ -17,8 +18,12 @@ use std::alloc::{AllocError, Global};
 pub struct ItemState {
     /// The cost of its version.
     cost: u64,
-    /// The amount of that version: at most the cost.
+    /// The amount of that version, as its readers so far have raised it: at most the cost.
     amount: u64,
+    /// The loans that its readers have taken.
+    loan: u64,
+    /// Whether a marked reader has a loan.
+    owed: bool,
     /// Whether each of its writers so far is marked or precedes a marked writer.
     covered: bool,
 }
@@ -26,6 +31,16 @@ pub struct ItemState {
 /// Returns the amount of a version, 0 past the end.
 fn amount_at(versions: &[Version], id: usize) -> u64 {
     versions.get(id).map_or(0, |version| version.amount)
+}
+
+/// Returns the amount that is proposed for a read, `OFFSET` past the end.
+fn read_amount(versions: &[Version], j: usize) -> u64
+    ensures { result ≡ read_amount versions.now j }
+{
+    match versions.get(j) {
+        Some(version) => version.amount,
+        None => OFFSET,
+    }
 }
 
 /// Returns the states of the items before all updates.
@@ -47,6 +62,8 @@ pub fn opening_states<M: Metric>(
         states.push(ItemState {
             cost,
             amount: amount_at(amounts, x as usize).min(cost),
+            loan: 0,
+            owed: false,
             covered: true,
         })?;
     }
@@ -63,18 +80,44 @@ fn has_slack_at(states: &[ItemState], x: ItemId) -> bool
     }
 }
 
-/// Returns whether an update with these accesses overwrites a version with slack, so that it has to be marked.
-fn has_slack(states: &[ItemState], row: &[Access]) -> bool
-    ensures { result ≡ list_any (λ a. a.writes && has_slack_at states.now a.item.0) row.now }
+/// Returns whether a marked update has a loan from the version of an item, and all its writers are covered.
+fn is_owed_at(states: &[ItemState], x: ItemId) -> bool
+    ensures { result ≡ is_owed_at states.now x.0 }
 {
-    row.iter().any(|a| a.writes && has_slack_at(states, a.item))
+    match states.get(x.0 as usize) {
+        None => false,
+        Some(state) => state.covered && state.owed,
+    }
 }
 
-/// Returns whether an update is marked: it is already, or it overwrites a version with slack.
-pub fn is_forced(states: &[ItemState], row: &[Access], marked: bool) -> bool
-    ensures { result ≡ (marked || list_any (λ a. a.writes && has_slack_at states.now a.item.0) row.now) }
+/// Returns whether an update with these accesses has to be marked because of a version that it overwrites.
+fn has_write_reason(states: &[ItemState], row: &[Access]) -> bool
+    ensures { result ≡ has_write_reason states.now row.now }
 {
-    marked || has_slack(states, row)
+    row.iter().any(|a| a.writes && (has_slack_at(states, a.item) || is_owed_at(states, a.item)))
+}
+
+/// Returns whether an update with these accesses raises the amount of a version with slack.
+fn has_read_reason(states: &[ItemState], row: &[Access], amounts: &[Version]) -> bool
+    ensures { result ≡ true → HasReadReason states.now row.now (read_amount amounts.now) }
+{
+    for j in 0..row.len() {
+        let access = row[j];
+        if !access.writes && OFFSET < read_amount(amounts, j) && has_slack_at(states, access.item) {
+            return true;
+        }
+    }
+    false
+}
+
+/// Returns whether an update is marked: it is already, or every closed set of least cost contains it because of a version that
+/// it overwrites or reads.
+pub fn is_forced(states: &[ItemState], row: &[Access], amounts: &[Version], marked: bool) -> bool
+    ensures stays { marked ≡ true → result ≡ true }
+    ensures reason { result ≡ true → (marked ≡ true) ⊎ ((has_write_reason states.now row.now ≡ true)
+        ⊎ HasReadReason states.now row.now (read_amount amounts.now)) }
+{
+    marked || has_write_reason(states, row) || has_read_reason(states, row, amounts)
 }
 
 /// Returns the sum of two numbers, or `None` if it does not fit.
@@ -84,11 +127,12 @@ pub fn add(a: u64, b: u64) -> Option<u64>
     a.checked_add(b)
 }
 
-/// The amount of a version that was overwritten, and the amount of the version that replaced it.
+/// The effect of an access on the sum of the amounts less the loans: `after` and `repaid` are added, `before` is subtracted.
 #[derive(Clone, Copy)]
 struct Moved {
     before: u64,
     after: u64,
+    repaid: u64,
 }
 
 /// Applies a write to the state of its item.
@@ -103,28 +147,70 @@ fn apply_write<M: Metric>(
     requires item { access.item.0 < length states.old }
     requires value { IsValue access.value }
     requires writes { access.writes ≡ true }
-    ensures { (row : List AccessValue) (old : List StateValue) (before after : ℕ)
-        → IsUpdateApplied (cost_in M.distance_by query.now) marked row old states.old before after
-        → IsUpdateApplied (cost_in M.distance_by query.now) marked (row ++ access ∷ []) old states.new
-        (before + result.before) (after + result.after) }
+    ensures { (proposed : ℕ → ℕ) (row : List AccessValue) (old : List StateValue) (before after : ℕ)
+        → IsUpdateApplied (cost_in M.distance_by query.now) marked proposed row old states.old before after
+        → IsUpdateApplied (cost_in M.distance_by query.now) marked proposed (row ++ access ∷ []) old states.new
+        (before + result.before) (after + (result.after + result.repaid)) }
 {
     let x = access.item.0 as usize;
     let cost = query.cost(access.item, access.value);
     let before = states[x].amount;
+    let repaid = states[x].loan;
     let lowered = amount.min(cost);
     states[x] = ItemState {
         cost,
         amount: lowered,
+        loan: 0,
+        owed: false,
         covered: marked,
     };
     Moved {
         before,
         after: lowered,
+        repaid,
     }
 }
 
-/// Applies the accesses of an update to the states of the items. Returns whether the sum of the amounts does not decrease,
-/// or `None` if a sum does not fit.
+/// Returns the state of an item after a read, for which `amount` is proposed: raises the amount, at most to the cost, or adds a
+/// loan.
+fn after_read(state: ItemState, amount: u64, marked: bool) -> ItemState
+    ensures read { IsReadOf marked state result }
+    ensures under { state.amount ≤ state.cost → result.amount ≤ result.cost }
+    ensures raises { OFFSET < amount → state.amount < state.cost → state.amount < result.amount }
+{
+    let room = state.cost.saturating_sub(state.amount);
+    let raise = amount.saturating_sub(OFFSET).min(room);
+    let loan = state.loan.saturating_add(OFFSET.saturating_sub(amount));
+    ItemState {
+        cost: state.cost,
+        amount: state.amount.saturating_add(raise),
+        loan,
+        owed: state.owed || (marked && state.loan < loan),
+        covered: state.covered,
+    }
+}
+
+/// Applies a read to the state of its item.
+fn apply_read(states: &mut [ItemState], x: ItemId, amount: u64, marked: bool) -> Moved
+    requires item { x.0 < length states.old }
+    ensures { (C : ℕ → ℤ → ℕ) (proposed : ℕ → ℕ) (row : List AccessValue) (access : AccessValue) (old : List StateValue) (before after : ℕ)
+        → access.writes ≡ false → access.item.0 ≡ x.0 → proposed (length row) ≡ amount
+        → IsUpdateApplied C marked proposed row old states.old before after
+        → IsUpdateApplied C marked proposed (row ++ access ∷ []) old states.new (before + result.before) (after + (result.after + result.repaid)) }
+{
+    let x = x.0 as usize;
+    let state = states[x];
+    let read = after_read(state, amount, marked);
+    states[x] = read;
+    Moved {
+        before: read.loan - state.loan,
+        after: read.amount - state.amount,
+        repaid: 0,
+    }
+}
+
+/// Applies the accesses of an update to the states of the items. Returns whether the sum of the amounts less the loans does not
+/// decrease, or `None` if a sum does not fit.
 fn apply_row<M: Metric>(
     query: &AuditedQuery<M>,
     states: &mut [ItemState],
@@ -137,19 +223,21 @@ fn apply_row<M: Metric>(
     requires values { All (λ a. IsValue a.value) row.now }
     ensures len { length states.new ≡ length states.old }
     ensures row { IfSome result (λ keeps. (before : ℕ) × (after : ℕ)
-        × IsUpdateApplied (cost_in M.distance_by query.now) marked row.now states.old states.new before after
+        × IsUpdateApplied (cost_in M.distance_by query.now) marked (read_amount amounts.now) row.now states.old states.new before after
         × (keeps ≡ true → before ≤ after)) }
 {
     let mut before = 0u64;
     let mut after = 0u64;
     for j in 0..row.len() {
         let access = row[j];
-        if access.writes {
+        let moved = if access.writes {
             let amount = amount_at(amounts, j);
-            let moved = apply_write(query, states, access, amount, marked);
-            before = add(before, moved.before)?;
-            after = add(after, moved.after)?;
-        }
+            apply_write(query, states, access, amount, marked)
+        } else {
+            apply_read(states, access.item, read_amount(amounts, j), marked)
+        };
+        before = add(before, moved.before)?;
+        after = add(after, add(moved.after, moved.repaid)?)?;
     }
     Some(before <= after)
 }
@@ -166,7 +254,7 @@ pub fn fits<M: Metric>(
     requires values { All (λ a. IsValue a.value) row.now }
     ensures len { length states.new ≡ length states.old }
     ensures row { result ≡ true → (before : ℕ) × (after : ℕ)
-        × IsUpdateApplied (cost_in M.distance_by query.now) true row.now states.old states.new before after }
+        × IsUpdateApplied (cost_in M.distance_by query.now) true (read_amount amounts.now) row.now states.old states.new before after }
 {
     match apply_row(query, states, row, amounts, true) {
         Some(_) => true,
@@ -174,7 +262,7 @@ pub fn fits<M: Metric>(
     }
 }
 
-/// Applies the accesses of an update. Returns `false` if the sum of the amounts decreases or does not fit.
+/// Applies the accesses of an update. Returns `false` if the sum of the amounts less the loans decreases or does not fit.
 pub fn steps<M: Metric>(
     query: &AuditedQuery<M>,
     states: &mut [ItemState],
@@ -187,7 +275,7 @@ pub fn steps<M: Metric>(
     requires values { All (λ a. IsValue a.value) row.now }
     ensures len { length states.new ≡ length states.old }
     ensures row { result ≡ true → (before : ℕ) × (after : ℕ)
-        × IsUpdateApplied (cost_in M.distance_by query.now) marked row.now states.old states.new before after
+        × IsUpdateApplied (cost_in M.distance_by query.now) marked (read_amount amounts.now) row.now states.old states.new before after
         × (before ≤ after) }
 {
     match apply_row(query, states, row, amounts, marked) {
@@ -207,8 +295,8 @@ pub fn fits_if<M: Metric>(
     requires row { All (λ a. a.item.0 < length query.now.schedule.opening) row.now }
     requires values { All (λ a. IsValue a.value) row.now }
     ensures len { length states.new ≡ length states.old }
-    ensures member { result ≡ true → marked ≡ true → (before : ℕ) × (after : ℕ)
-        × IsUpdateApplied (cost_in M.distance_by query.now) true row.now states.old states.new before after }
+    ensures member { result ≡ true → marked ≡ true → (proposed : ℕ → ℕ) × (before : ℕ) × (after : ℕ)
+        × IsUpdateApplied (cost_in M.distance_by query.now) true proposed row.now states.old states.new before after }
     ensures other { marked ≡ false → states.new ≡ states.old }
 {
     if marked {
@@ -229,6 +317,7 @@ pub fn covered_copy(alloc: Global, states: &[ItemState]) -> Result<Vec<ItemState
     states
         .iter()
         .map(|state| ItemState {
+            owed: 0 < state.loan,
             covered: true,
             ..*state
         })
@@ -246,13 +335,15 @@ pub fn costs_of(states: &[ItemState]) -> Option<u64>
     Some(sum)
 }
 
-/// Returns the sum of the amounts, or `None` if it does not fit.
+/// Returns the sum of the amounts less the loans, or `None` if it does not fit.
 pub fn sum_of(states: &[ItemState]) -> Option<u64>
-    ensures { IfSome result (λ sum. sum ≡ amounts_sum states.now) }
+    ensures { IfSome result (λ sum. sum + loans_sum states.now ≡ amounts_sum states.now) }
 {
-    let mut sum = 0u64;
+    let mut amounts = 0u64;
+    let mut loans = 0u64;
     for state in states {
-        sum = add(sum, state.amount)?;
+        amounts = add(amounts, state.amount)?;
+        loans = add(loans, state.loan)?;
     }
-    Some(sum)
+    amounts.checked_sub(loans)
 }

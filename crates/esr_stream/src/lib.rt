@@ -6,15 +6,16 @@
 //! (`pass`) caps each amount at the cost of its version. Every closed set contains the *mandatory* updates: of a strict query,
 //! the updates that committed before it began; of any other query, none.
 //!
-//! A pass applies the updates in commit order and keeps the sum of the capped amounts of the current versions. Let S be this
-//! sum directly after the mandatory updates. If a later update decreases the sum, the pass fails. Otherwise every closed set
-//! costs at least S (`esr_bound`). The pass also marks updates that every closed set of cost S contains, and `close` adds their
-//! predecessors. If `close` adds an update, another pass follows. It keeps all marks, and it need not visit all updates again:
-//! if all updates before a position are marked, every closed set of cost S contains them, as if they were mandatory. So the
-//! pass starts from the states at that position, provided that their amounts sum to at least S. After 33 passes (`MAX_ROUNDS`
-//! and the first one) the search ends without a result. When `close` adds none and the cost of the marked set equals S, the
-//! marked set is the result. In each other case `least_of` returns `None`, and the caller solves the closure problem of the
-//! query (`esr_audit`).
+//! A pass applies the updates in commit order and keeps the sum of the capped amounts of the current versions. A read of an
+//! update may raise the amount of the version, or take a loan from it, which counts against the sum until the next writer
+//! repays it. Let S be the sum directly after the mandatory updates. If a later update decreases it, the pass fails. Otherwise
+//! every closed set costs at least S (`esr_bound`). The pass also marks updates that every closed set of cost S contains, and
+//! `close` adds their predecessors. If `close` adds an update, another pass follows. It keeps all marks, and it need not visit
+//! all updates again: if all updates before a position are marked, every closed set of cost S contains them, as if they were
+//! mandatory. So the pass starts from the states at that position, provided that their amounts sum to at least S. After 33
+//! passes (`MAX_ROUNDS` and the first one) the search ends without a result. When `close` adds none and the cost of the marked
+//! set equals S, the marked set is the result. In each other case `least_of` returns `None`, and the caller solves the closure
+//! problem of the query (`esr_audit`).
 //!
 //! The proof covers the pass and not the proposed amounts, so the proposal can change without a new theorem. Costs are never
 //! negative, but amounts can be. So costs and amounts are stored as unsigned integers with `OFFSET` added. Rejected design: a
@@ -31,5 +32,6 @@ mod query;
 mod reads;
 mod rounds;
 mod search;
+mod update_reads;
 
 pub use least::{Least, least_of};

@@ -42,9 +42,8 @@ pub fn start<M: Metric>(
     Ok(Some(states))
 }
 
-/// Applies the updates between two positions, and marks each one that overwrites a version whose amount is below its cost, if
-/// all writers of its item so far are covered. Returns `false` if an update decreases the sum of the amounts, or a sum does not
-/// fit.
+/// Applies the updates between two positions, and marks each one that every closed set of least cost contains (`is_forced`).
+/// Returns `false` if an update decreases the sum of the amounts less the loans, or if a sum does not fit.
 ///
 /// # Errors
 ///
@@ -74,7 +73,7 @@ pub fn pass<M: Metric>(
     for i in from..to {
         let row = query.accesses(i, &mut list)?;
         let own = proposed.versions_from(i);
-        let marked = is_forced(states, row, marks[i]);
+        let marked = is_forced(states, row, own, marks[i]);
         let keeps = steps(query, states, row, own, marked);
         if !keeps {
             return Ok(false);

@@ -2,10 +2,10 @@
 //! predecessors of marked updates. So the marked set is closed after each round. The rounds end when one adds no predecessor.
 //! A round starts at the first update that was not marked when the previous round started, because its pass leaves the states
 //! at that position. Rejected: all rounds from the same position, which visits the marked updates after it in each round.
-ghost use Rattle.std.specs.Prelude.{◌≡◌, ◌≤◌, ◌<◌, ℕ, Bool, List, IfOk, IfSome, length, map, nat_lt, true};
+ghost use Rattle.std.specs.Prelude.{◌≡◌, ◌≤◌, ◌<◌, ◌+◌, ℕ, Bool, List, IfOk, IfSome, length, map, nat_lt, true};
 ghost use Rattle.esr_history.specs.Queries.{must};
 ghost use Rattle.esr_bound.specs.Amounts.{AreForced, mark_at};
-ghost use Rattle.esr_stream.specs.Passes.{IsPrefixMarked, AreForcedAndClosed, AreStates, IsPassInvariant, StayMarked, amounts_sum};
+ghost use Rattle.esr_stream.specs.Passes.{IsPrefixMarked, AreForcedAndClosed, AreStates, IsPassInvariant, StayMarked, amounts_sum, loans_sum};
 ghost use Rattle.esr_stream.specs.Query.{cost_in, updates_of};
 
 use crate::amounts::ProposedAmounts;
@@ -58,7 +58,7 @@ pub struct RoundEnd {
 }
 
 /// Makes one pass over the updates from a position on. Returns the states at the checkpoint, where later rounds can start, or
-/// `None` if an update decreases the sum of the amounts.
+/// `None` if an update decreases the sum of the amounts less the loans.
 fn pass_with_checkpoint<M: Metric>(
     alloc: Global,
     query: &AuditedQuery<M>,
@@ -96,7 +96,7 @@ fn pass_with_checkpoint<M: Metric>(
 }
 
 /// Makes one pass over the updates from a position on, and marks the predecessors of marked updates. Returns `None` if an
-/// update decreases the sum of the amounts.
+/// update decreases the sum of the amounts less the loans.
 ///
 /// # Errors
 ///
@@ -113,13 +113,14 @@ pub fn round<M: Metric>(
     requires mandatory_within { length (must query.now.schedule query.now.query) ≤ from }
     requires from_le_checkpoint { from ≤ checkpoint }
     requires checkpoint_le_len { checkpoint ≤ length (updates_of query.now) }
+    requires loans_within_amounts { loans_sum start_states.now ≤ amounts_sum start_states.now }
     requires marks { length marks.old ≡ length (updates_of query.now) }
     requires prefix_marked { IsPrefixMarked from marks.old }
     requires start_states { (ms : List Bool) → IsPrefixMarked from ms
         → AreStates (cost_in M.distance_by query.now) query.now.schedule query.now.query from ms start_states.now }
     ensures len { length marks.new ≡ length marks.old }
     ensures stay { StayMarked marks.old marks.new }
-    ensures forced_and_closed { IfOk result (λ found. IfSome found (λ _. (worth : ℕ) → worth ≤ amounts_sum start_states.now
+    ensures forced_and_closed { IfOk result (λ found. IfSome found (λ _. (worth : ℕ) → worth + loans_sum start_states.now ≤ amounts_sum start_states.now
         → AreForced (length query.now.schedule.opening) (cost_in M.distance_by query.now) query.now.schedule query.now.query worth marks.old
         → AreForcedAndClosed (length query.now.schedule.opening) (cost_in M.distance_by query.now) query.now.schedule query.now.query worth marks.new)) }
     ensures checkpoint { IfOk result (λ found. IfSome found (λ end. (ms : List Bool) → IsPrefixMarked checkpoint ms

@@ -4,6 +4,7 @@ ghost use Rattle.esr_items.specs.Values.{IsValue};
 
 use crate::amounts::{NOBODY, NONE, ProposedAmounts, to_u16_or_nobody};
 use crate::query::AuditedQuery;
+use crate::update_reads::UpdateReads;
 use esr_items::{ItemId, Metric};
 use esr_order::Access;
 use std::alloc::{AllocError, Global};
@@ -21,6 +22,14 @@ enum ResidualArc {
     Decrease(u32),
     /// The amount of a version that the update writes can increase. This version overwrites it.
     Increase(u32),
+    /// The raise by this read of the update can increase.
+    Raise(u32),
+    /// The raise by this read of a version that the update writes can decrease.
+    Lower(u32),
+    /// The loan of this read, of a version that the update overwrites, can increase.
+    Borrow(u32),
+    /// The loan of this read of the update can decrease.
+    Repay(u32),
 }
 
 /// An update that a breadth-first search has reached.
@@ -143,9 +152,75 @@ impl SearchState {
                     arc: ResidualArc::Decrease(id),
                 })?;
             }
+            self.expand_readers(&amounts.reads, id)?;
+            self.expand_borrowers(&amounts.reads, version.overwritten())?;
             id = id.saturating_add(1);
         }
+        self.expand_reads(&amounts.reads, update)?;
         Ok(None)
+    }
+
+    /// Enqueues the updates that read a version of the expanded update: each can raise its amount, which lowers what the update
+    /// itself has to carry.
+    fn expand_readers(&mut self, reads: &UpdateReads, version: u32) -> Result<(), AllocError> {
+        let mut next = reads.first_of_version(version);
+        for _ in 0..reads.reads.len() {
+            let Some(read) = reads.get(next) else {
+                return Ok(());
+            };
+            self.visits_left = self.visits_left.saturating_sub(1);
+            self.enqueue(Reached {
+                update: read.reader,
+                predecessor: self.head,
+                arc: ResidualArc::Raise(next),
+            })?;
+            next = reads.next_of(read);
+        }
+        Ok(())
+    }
+
+    /// Enqueues the updates that have a loan from a version that the expanded update overwrites: each loan can decrease.
+    fn expand_borrowers(&mut self, reads: &UpdateReads, version: u32) -> Result<(), AllocError> {
+        let mut next = reads.first_of_version(version);
+        for _ in 0..reads.reads.len() {
+            let Some(read) = reads.get(next) else {
+                return Ok(());
+            };
+            self.visits_left = self.visits_left.saturating_sub(1);
+            if 0 < read.loan {
+                self.enqueue(Reached {
+                    update: read.reader,
+                    predecessor: self.head,
+                    arc: ResidualArc::Repay(next),
+                })?;
+            }
+            next = reads.next_of(read);
+        }
+        Ok(())
+    }
+
+    /// Enqueues the overwriters of the versions that an update reads, and the writers of those whose amount it raises.
+    fn expand_reads(&mut self, reads: &UpdateReads, update: u16) -> Result<(), AllocError> {
+        let mut r = reads.first_of_update(update);
+        for read in reads.of_update(update) {
+            self.visits_left = self.visits_left.saturating_sub(1);
+            if read.overwriter != NOBODY {
+                self.enqueue(Reached {
+                    update: read.overwriter,
+                    predecessor: self.head,
+                    arc: ResidualArc::Borrow(r),
+                })?;
+            }
+            if 0 < read.raise && read.writer != NOBODY {
+                self.enqueue(Reached {
+                    update: read.writer,
+                    predecessor: self.head,
+                    arc: ResidualArc::Lower(r),
+                })?;
+            }
+            r = r.saturating_add(1);
+        }
+        Ok(())
     }
 
     /// Begins a search from an update with an excess.
@@ -239,6 +314,9 @@ impl SearchState {
                     let overwritten = amounts.version(id).overwritten();
                     cost.saturating_sub(amounts.version(overwritten).amount)
                 }
+                ResidualArc::Raise(_) | ResidualArc::Borrow(_) => limit,
+                ResidualArc::Lower(r) => amounts.reads.get(r).map_or(0, |read| read.raise),
+                ResidualArc::Repay(r) => amounts.reads.get(r).map_or(0, |read| read.loan),
             };
             least = least.min(residual);
             i = reached.predecessor;
@@ -266,6 +344,10 @@ impl SearchState {
                     let cost = overwritten_cost(query, amounts, id, buffer)?;
                     amounts.increase_overwritten(id, amount, cost);
                 }
+                ResidualArc::Raise(r) => amounts.reads.add_raise(r, amount),
+                ResidualArc::Lower(r) => amounts.reads.subtract_raise(r, amount),
+                ResidualArc::Borrow(r) => amounts.reads.add_loan(r, amount),
+                ResidualArc::Repay(r) => amounts.reads.subtract_loan(r, amount),
             }
             i = reached.predecessor;
         }
@@ -369,8 +451,9 @@ pub fn propose_amounts<M: Metric>(
         let accesses = query.accesses(i, &mut buffer)?;
         amounts.push_update(query, accesses, to_u16_or_nobody(i))?;
     }
-    amounts.init_amounts()?;
+    amounts.init_amounts(alloc)?;
     sweep(alloc, query, first, &mut amounts)?;
     amounts.store_current();
+    amounts.store_reads();
     Ok(amounts)
 }

@@ -1,4 +1,4 @@
-use Rattle.std.proofs.Common.{◌≡◌, arith, refl, ap, ◌∙◌, w64}
+use Rattle.std.proofs.Common.{◌≡◌, false, arith, refl, ap, ◌∙◌, w64}
 use Rattle.std.proofs.lemmas.Int.{to_z-of_z}
 use Rattle.esr_stream.proofs.ValueLists.{value_fits}
 use Rattle.esr_stream.specs.Query.{cost_in}
@@ -10,6 +10,7 @@ told : (g : Over) (c : goal.After-min-lowered g) → c.cost-cost.result ≡ (cos
 told g c = c.cost-cost.ensures ∙ ap ((cost_in g.M.Metric.distance_by c.args.query.now) c.args.access.item.0) (to_z-of_z w64 c.args.access.value (value_fits c.args.access.value c.requires.value))
 
 pub returns : goal.returns
-returns g c = λ row old before after so_far.
-    row_write (cost_in g.M.Metric.distance_by c.args.query.now) c.args.marked row c.args.access old c.args.states.now before after so_far
-    c.requires.writes (omega (arith, c.requires.item, so_far.len)) c.cost-cost.result c.min-lowered.result (told g c) (omega arith) _ refl
+returns g c = λ proposed row old before after so_far.
+    row_write (cost_in g.M.Metric.distance_by c.args.query.now) c.args.marked proposed row c.args.access old c.args.states.now before after so_far
+    (omega (arith, c.requires.item, so_far.len)) (record { cost = c.cost-cost.result; amount = c.min-lowered.result; loan = 0; owed = false; covered = c.args.marked }) _ refl
+    c.requires.writes (told g c) (omega arith) refl refl refl

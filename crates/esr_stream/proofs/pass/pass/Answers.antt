@@ -1,9 +1,8 @@
-use Rattle.std.proofs.Common.{◌≡◌, ◌<◌, sym, ◌∙◌, subst, length, arith, inl, inr, length-set}
-use Rattle.std.proofs.lemmas.Bool.{or_cases, or_left}
+use Rattle.std.proofs.Common.{◌≡◌, ◌<◌, ◌∙◌, subst, length, arith, length-set}
 use Rattle.std.proofs.lemmas.List.Elements.{recursion_from_All}
 use Rattle.esr_history.specs.Queries.{updates_committed_before}
 use Rattle.esr_order.specs.declared.accesses.Access.{Access}
-use Rattle.esr_stream.specs.Passes.{IsPassInvariant, IsUpdateApplied}
+use Rattle.esr_stream.specs.Passes.{IsPassInvariant, IsUpdateApplied, read_amount}
 use Rattle.esr_stream.specs.Query.{cost_in}
 use Rattle.esr_stream.proofs.PassLaws.{passed_more, stay_more}
 use Rattle.esr_stream.proofs.pass.pass.Goals as goal
@@ -22,14 +21,15 @@ loop-i-preserved g c =
     let items = recursion_from_All (λ (a : Access). a.item.0 < length h.opening) row c.in_ok-row.ensures.items in
     let marked = c.is_forced-marked.result in
     let kept = c.steps-keeps.ensures.row c.if-not-keeps.false in
-    let put : IsUpdateApplied C marked row c.loop-i.states c.steps-keeps.new.states kept.0 kept.1 = kept.2 in
+    let proposed = read_amount c.versions_from-own.result.now in
+    let put : IsUpdateApplied C marked proposed row c.loop-i.states c.steps-keeps.new.states kept.0 kept.1 = kept.2 in
     record {
       len = c.steps-keeps.ensures.len ∙ c.loop-i.invariant.len;
       marks = length-set c.loop-i.marks i marked ∙ c.loop-i.invariant.marks;
-      stay = stay_more c.args.marks.now c.loop-i.marks i marked sized (λ m. c.is_forced-marked.ensures ∙ or_left _ _ m) c.loop-i.invariant.stay;
+      stay = stay_more c.args.marks.now c.loop-i.marks i marked sized c.is_forced-marked.ensures.stays c.loop-i.invariant.stay;
       passed = λ worth seeds p.
-          passed_more d h q legal C worth i seeds c.loop-i.marks marked row c.loop-i.states c.steps-keeps.new.states kept.0 kept.1 (c.loop-i.invariant.passed worth seeds p) inside sized c.in_ok-row.ensures.accesses items
-          (λ m. elim (or_cases _ _ (sym c.is_forced-marked.ensures ∙ m)) [ inl a ↦ inl a | inr b ↦ inr b ])
+          passed_more d h q legal C worth i seeds c.loop-i.marks marked proposed row c.loop-i.states c.steps-keeps.new.states kept.0 kept.1 (c.loop-i.invariant.passed worth seeds p) inside sized c.in_ok-row.ensures.accesses items
+          c.is_forced-marked.ensures.reason
           put kept.3;
     }
 

@@ -2,7 +2,7 @@ use Rattle.std.proofs.Common.{◌≡◌, ◌<◌, ◌+◌, List, [], true, sym, 
 use Rattle.esr_history.specs.Queries.{updates_committed_before}
 use Rattle.esr_order.proofs.Early.{must_below}
 use Rattle.esr_order.proofs.Lists.{written_back}
-use Rattle.esr_stream.specs.Passes.{ItemState, AreStates, IsUpdateApplied}
+use Rattle.esr_stream.specs.Passes.{ItemState, AreStates, IsUpdateApplied, read_amount}
 use Rattle.esr_stream.specs.Query.{cost_in}
 use Rattle.esr_stream.proofs.PassLaws.{first_more}
 use Rattle.esr_stream.proofs.pass.start.Goals as goal
@@ -29,11 +29,12 @@ loop-i-preserved g c =
     let sized : length new ≡ length old = c.fits-fit.ensures.len ∙ ap (λ (l : List ItemState). length l) c.deref_mut.ensures.value in
     let back = written_back new old c.loop-i.states.len c.loop-i.states.ok.0 sized in
     let kept = c.fits-fit.ensures.row c.if-not-fit.false in
-    let put : IsUpdateApplied C true row old new kept.0 kept.1 =
-    subst (λ l. IsUpdateApplied C true row l new kept.0 kept.1) c.deref_mut.ensures.value kept.2 in
+    let proposed = read_amount c.versions_from-own.result.now in
+    let put : IsUpdateApplied C true proposed row old new kept.0 kept.1 =
+    subst (λ l. IsUpdateApplied C true proposed row l new kept.0 kept.1) c.deref_mut.ensures.value kept.2 in
     record {
       len = ap (λ (l : List ItemState). length l) back ∙ sized ∙ c.loop-i.invariant.len;
       states = λ marks firsts.
           subst (λ l. AreStates C h q (i + 1) marks l) (sym back)
-          (first_more d h q legal C i marks row old new kept.0 kept.1 inside (c.loop-i.invariant.states marks firsts) c.in_ok-row.ensures.accesses put (firsts i early));
+          (first_more d h q legal C i marks proposed row old new kept.0 kept.1 inside (c.loop-i.invariant.states marks firsts) c.in_ok-row.ensures.accesses put (firsts i early));
     }

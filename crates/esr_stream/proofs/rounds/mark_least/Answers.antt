@@ -1,6 +1,6 @@
-use Rattle.std.proofs.Common.{◌≤◌, ◌∙◌, ℕ, Bool, List, IfSome, length, ap, subst, sym, arith}
+use Rattle.std.proofs.Common.{◌+◌, ◌≤◌, ◌∙◌, ℕ, Bool, List, IfSome, length, ap, subst, sym, arith}
 use Rattle.esr_bound.specs.Amounts.{AreForced}
-use Rattle.esr_stream.specs.Passes.{AreForcedAndClosed, AreStates, IsPrefixMarked, ItemState, amounts_sum}
+use Rattle.esr_stream.specs.Passes.{AreForcedAndClosed, AreStates, IsPrefixMarked, ItemState, amounts_sum, loans_sum}
 use Rattle.esr_stream.specs.Query.{cost_in}
 use Rattle.esr_stream.specs.declared.rounds.RoundEnd.{RoundEnd}
 use Rattle.esr_stream.proofs.rounds.mark_least.Goals as goal
@@ -13,9 +13,9 @@ loop-round-preserved g c =
     let C = cost_in g.M.Metric.distance_by c.args.query.now in
     let len = c.marked_prefix_len-checkpoint.result in
     let states : List ItemState = c.deref-in-loop-round.result.now in
-    let low : c.args.worth ≤ amounts_sum states = omega (arith, c.if-sum-worth.false, c.in-Some.ensures, ap (λ (l : List ItemState). amounts_sum l) c.deref.ensures.value, ap (λ (l : List ItemState). amounts_sum l) c.deref-in-loop-round.ensures.value) in
-    let forced_and_closed : (w : ℕ) → w ≤ amounts_sum states → AreForced n C h q w c.loop-round.marks → AreForcedAndClosed n C h q w c.round.new.marks =
-    subst (λ o. IfSome o (λ (e : RoundEnd). (w : ℕ) → w ≤ amounts_sum states → AreForced n C h q w c.loop-round.marks → AreForcedAndClosed n C h q w c.round.new.marks)) c.in-Some-found.is c.in_ok-found.ensures.forced_and_closed in
+    let low : c.args.worth + loans_sum states ≤ amounts_sum states = omega (arith, c.if-sum-worth.false, c.in-Some.ensures, ap (λ (l : List ItemState). amounts_sum l) c.deref.ensures.value, ap (λ (l : List ItemState). amounts_sum l) c.deref-in-loop-round.ensures.value, ap (λ (l : List ItemState). loans_sum l) c.deref.ensures.value, ap (λ (l : List ItemState). loans_sum l) c.deref-in-loop-round.ensures.value) in
+    let forced_and_closed : (w : ℕ) → w + loans_sum states ≤ amounts_sum states → AreForced n C h q w c.loop-round.marks → AreForcedAndClosed n C h q w c.round.new.marks =
+    subst (λ o. IfSome o (λ (e : RoundEnd). (w : ℕ) → w + loans_sum states ≤ amounts_sum states → AreForced n C h q w c.loop-round.marks → AreForcedAndClosed n C h q w c.round.new.marks)) c.in-Some-found.is c.in_ok-found.ensures.forced_and_closed in
     record {
       len = c.round.ensures.len ∙ c.loop-round.invariant.len;
       low = omega (arith, c.loop-round.invariant.low, c.marked_prefix_len-checkpoint.ensures.low);

@@ -1,7 +1,7 @@
-use Rattle.std.proofs.Common.{◌∙◌, ◌≤◌, ℕ, Bool, List, Vec, Global, IfSome, refl, sym, ap, subst, arith, length}
+use Rattle.std.proofs.Common.{◌∙◌, ◌+◌, ◌≤◌, ℕ, Bool, List, Vec, Global, IfSome, refl, sym, ap, subst, arith, length}
 use Rattle.esr_history.specs.Queries.{updates_committed_before}
 use Rattle.esr_bound.specs.Amounts.{Shows}
-use Rattle.esr_stream.specs.Passes.{IsPrefixMarked, AreStates, ItemState, IsPassInvariant, amounts_sum}
+use Rattle.esr_stream.specs.Passes.{IsPrefixMarked, AreStates, ItemState, IsPassInvariant, amounts_sum, loans_sum}
 use Rattle.esr_stream.specs.Query.{cost_in}
 use Rattle.esr_stream.proofs.PassLaws.{passed_from, passed_end}
 use Rattle.esr_stream.proofs.rounds.round.Given.{Over}
@@ -15,7 +15,7 @@ pub returns-clause-stay : goal.returns-clause-stay
 returns-clause-stay g c = λ i m. c.close.ensures.stay i (c.pass_with_checkpoint.ensures.stay i m)
 
 -- the invariant before the pass
-started : (g : Over) (c : goal.After-drop-states-2 g) (worth : ℕ) → worth ≤ amounts_sum c.args.start_states.now
+started : (g : Over) (c : goal.After-drop-states-2 g) (worth : ℕ) → worth + loans_sum c.args.start_states.now ≤ amounts_sum c.args.start_states.now
     → IsPassInvariant (length c.args.query.now.schedule.opening) (cost_in g.M.Metric.distance_by c.args.query.now) c.args.query.now.schedule c.args.query.now.query worth c.args.from c.args.marks.now c.args.marks.now c.deref_mut.result.now
 started g c worth low =
     let h = c.args.query.now.schedule in
@@ -53,4 +53,4 @@ returns-clause-checkpoint g c = λ ms firsts.
     let seeds = c.args.marks.now in
     let kept : (w : ℕ) (ss ms : List Bool) → IsPassInvariant n C h q w c.args.from ss seeds c.deref_mut.result.now → IsPrefixMarked c.args.checkpoint ms → AreStates C h q c.args.checkpoint ms c.in-Some.kept.items =
     subst (λ o. IfSome o (λ (v : Vec ItemState Global). (w : ℕ) (ss ms : List Bool) → IsPassInvariant n C h q w c.args.from ss seeds c.deref_mut.result.now → IsPrefixMarked c.args.checkpoint ms → AreStates C h q c.args.checkpoint ms v.items)) c.in-Some.is c.in_ok-found.ensures.checkpoint in
-    kept 0 seeds ms (started g c 0 (omega arith)) firsts
+    kept 0 seeds ms (started g c 0 (omega (arith, c.requires.loans_within_amounts))) firsts
