@@ -85,8 +85,12 @@ fn wrote<'a>(source: Source<'a>, write: Write) -> Note<'a> {
 /// nearest placement.
 fn followed_by<'a>(source: Source<'a>, causes: &Causes, place: usize) -> Option<&'a str> {
     let write = write_at(source, place as u64)?;
-    let cause = causes.cause_of(write.update)?;
-    (cause != write.update).then(|| name_of_transaction(source.transactions, cause))
+    match causes.cause_of(write.update) {
+        Some(cause) if cause != write.update => {
+            Some(name_of_transaction(source.transactions, cause))
+        }
+        _ => None,
+    }
 }
 
 /// Returns a note with the name of the charged update that its writer follows.
