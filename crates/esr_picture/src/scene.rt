@@ -20,12 +20,11 @@ use esr_text::first;
 use esr_trace::{Audited, NearestPlacement, QueryTrace, relevant_updates, sentences_of};
 use std::alloc::{AllocError, Global};
 
-/// The number of times that a scene that is too wide is rebuilt with fewer updates, but at least [`FEW_RELEVANT`]. After that
-/// it has as few of these and of the values read within dotted segments as it needs to fit.
+/// The number of times that a scene that is too wide is rebuilt with fewer updates, but at least [`FEW_RELEVANT`].
 const MAX_TRIES: u32 = 12;
 
-/// The number of those later tries: each number of updates down to none, and a single one before the line, with each number
-/// of values.
+/// The number of tries after that: with these updates down to one, and some values read within dotted segments; with these
+/// updates and no such value; with one update before the line; and with none.
 const LAST_TRIES: u32 = 15;
 
 /// The maximum number of values read within each stretch of several.
@@ -50,15 +49,22 @@ impl Extent {
     fn reduced(self, fitting: usize, tries: u32) -> Extent {
         let mut reduced = self;
         let fewer = self.updates.saturating_sub(1);
+        let has_cause = self.updates > 0 && !self.is_before_line;
         if self.updates > FEW_RELEVANT {
             let fitting = if tries < MAX_TRIES { fitting } else { 0 };
             reduced.updates = fitting.max(FEW_RELEVANT).min(fewer);
-        } else if self.reads > 0 {
+        } else if self.reads > 1 || (self.reads == 1 && !has_cause) {
             reduced.reads = self.reads.saturating_sub(1);
+        } else if self.updates > 1 {
+            reduced.updates = fewer;
+            reduced.reads = self.reads.saturating_mul(MAX_READS);
+        } else if self.reads == 1 {
+            reduced.updates = FEW_RELEVANT;
+            reduced.reads = 0;
         } else if self.updates > 0 {
+            reduced.updates = if has_cause { 1 } else { 0 };
+            reduced.is_before_line = true;
             reduced.reads = MAX_READS;
-            reduced.is_before_line = self.updates == 1 && !self.is_before_line;
-            reduced.updates = if reduced.is_before_line { 1 } else { fewer };
         }
         reduced
     }
