@@ -279,8 +279,9 @@ fn push_gap(
     }
 }
 
-/// Appends the way of the arrow of a charge up to the lane of the query, with gaps at the texts that it passes.
-fn push_upward(
+/// Appends the way of the arrow of a charge to the lane of the query, with gaps at the texts that it passes: on its way up also
+/// the head above the lane of the update.
+fn push_passage(
     out: &mut String,
     scene: &Scene<'_>,
     band: &Band<'_>,
@@ -288,35 +289,24 @@ fn push_upward(
     from: usize,
     x: u32,
 ) -> Result<(), AllocError> {
-    let count = from.saturating_sub(arrow.to);
-    for place in 0..count {
-        let number = from.saturating_sub(place);
-        if number != from {
-            let gap = gap_of_charge(&scene.arrows, band, number, arrow.place);
-            push_gap(out, gap, true, x)?;
-        }
-        if let Some(lane) = scene.lanes.get(number) {
-            push_gap(out, gap_of_head(lane, band, number, x), true, x)?;
-        }
-    }
-    Ok(())
-}
-
-/// Appends the way of the arrow of a charge down to the lane of the query, with gaps at the texts that it passes.
-fn push_downward(
-    out: &mut String,
-    scene: &Scene<'_>,
-    band: &Band<'_>,
-    arrow: &Arrow<'_>,
-    from: usize,
-    x: u32,
-) -> Result<(), AllocError> {
-    for number in from.saturating_add(1)..arrow.to {
-        if let Some(lane) = scene.lanes.get(number) {
-            push_gap(out, gap_of_head(lane, band, number, x), false, x)?;
-        }
-        let gap = gap_of_charge(&scene.arrows, band, number, arrow.place);
-        push_gap(out, gap, false, x)?;
+    let is_upward = from > arrow.to;
+    let first = if is_upward { 0 } else { 1 };
+    for count in first..from.abs_diff(arrow.to) {
+        let number = if is_upward {
+            from.saturating_sub(count)
+        } else {
+            from.saturating_add(count)
+        };
+        let lane = scene.lanes.get(number);
+        let head = lane.and_then(|lane| gap_of_head(lane, band, number, x));
+        let charge = gap_of_charge(&scene.arrows, band, number, arrow.place);
+        let (next, last) = if is_upward {
+            (charge, head)
+        } else {
+            (head, charge)
+        };
+        push_gap(out, next, is_upward, x)?;
+        push_gap(out, last, is_upward, x)?;
     }
     Ok(())
 }
@@ -332,11 +322,7 @@ fn push_way(
     let x = x_at(&band.columns, arrow.place);
     let (start, end) = ends_of(band, arrow.place, from, arrow.to);
     write!(out, "M{x} {start}")?;
-    if from > arrow.to {
-        push_upward(out, scene, band, arrow, from, x)?;
-    } else {
-        push_downward(out, scene, band, arrow, from, x)?;
-    }
+    push_passage(out, scene, band, arrow, from, x)?;
     write!(out, "V{end}")
 }
 

@@ -1,7 +1,7 @@
 //! The right edges of the texts of a band, from which the columns get their distances.
 
 use crate::layout::{Column, GAP, MARGIN, width_of};
-use crate::scene::{Action, Arrow, Lane, Mark, Note};
+use crate::scene::{Action, Arrow, Lane, Mark, Note, NotedWrite};
 use esr_text::{letters_of, number_letters};
 use esr_trace::outcome_words;
 use std::alloc::{AllocError, Global};
@@ -49,41 +49,34 @@ fn off_letters(value: i64, there: i64, is_folded: bool) -> usize {
 }
 
 /// Returns the letters of the longer of `u1 wrote 1,500` and `in step 57`.
-fn write_letters(update: &str, value: i64, place: usize) -> usize {
-    let wrote = update.len().saturating_add(letters_of(value));
-    let step = number_letters((place as u64).saturating_add(1));
+fn write_letters(write: &NotedWrite<'_>) -> usize {
+    let wrote = write.update.len().saturating_add(letters_of(write.value));
+    let step = number_letters(write.step());
     wrote.saturating_add(7).max(step.saturating_add(8))
 }
 
 /// Returns the letters of `u2 follows u1`, or 0 if the update follows none.
-fn follows_letters(update: &str, follows: &str) -> usize {
-    if follows.is_empty() {
-        return 0;
+fn follows_letters(write: &NotedWrite<'_>) -> usize {
+    match write.follows {
+        Some(charged) => write
+            .update
+            .len()
+            .saturating_add(charged.len())
+            .saturating_add(9),
+        None => 0,
     }
-    let names = update.len().saturating_add(follows.len());
-    names.saturating_add(9)
 }
 
 /// Returns the letters of the longest row of the note at a mark.
 fn note_letters(mark: &Mark<'_>) -> usize {
     match mark.note {
-        Some(
-            Note::Wrote {
-                update,
-                value,
-                place,
-                follows,
-            },
-        ) => {
-            let write = if mark.has_note {
-                write_letters(update, value, place)
-            } else {
-                0
-            };
-            write.max(follows_letters(update, follows))
+        Some(Note::Wrote(write)) if mark.has_note => {
+            write_letters(&write).max(follows_letters(&write))
         }
+        Some(Note::Wrote(write)) => follows_letters(&write),
         // `as u1 wrote`, or `as at the start`
-        Some(Note::Equals { update }) => update.len().saturating_add(9).max(15),
+        Some(Note::Equals(Some(update))) => update.len().saturating_add(9),
+        Some(Note::Equals(None)) => 15,
         None => 0,
     }
 }

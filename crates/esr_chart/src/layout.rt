@@ -415,11 +415,15 @@ fn span_of(columns: &[Column<'_>], life: Life, left: u32, open_end: u32, is_last
 /// Returns the rows of the note at a column that is drawn.
 fn rows_of_note(column: &Column<'_>) -> u32 {
     match column.mark.note {
-        Some(Note::Wrote { follows, .. }) if column.has_label => {
-            let write = if column.mark.has_note { 2 } else { 0 };
-            if follows.is_empty() { write } else { write + 1 }
+        Some(Note::Wrote(write)) if column.has_label => {
+            let rows = if column.mark.has_note { 2 } else { 0 };
+            if write.follows.is_some() {
+                rows + 1
+            } else {
+                rows
+            }
         }
-        Some(Note::Equals { .. }) if column.has_label => 1,
+        Some(Note::Equals(_)) if column.has_label => 1,
         _ => 0,
     }
 }

@@ -27,6 +27,6 @@ pub use head::{
 pub use layout::{Band, Drawn, Format, Heads, Layout, MARGIN, Spacing, layout_of};
 pub use legend::{legend_height, push_legend};
 pub use scene::{
-    Action, Arrow, Cause, Farthest, Lane, Mark, Mistakes, Nearest, Note, Order, Reason, Relation,
-    Rest, Scene,
+    Action, Arrow, Cause, Farthest, Lane, Mark, Mistakes, Nearest, Note, NotedWrite, Order, Reason,
+    Relation, Rest, Scene,
 };

@@ -54,22 +54,33 @@ pub enum Cause {
     Export,
 }
 
+/// A write that explains the value of a read.
+#[derive(Clone, Copy)]
+pub struct NotedWrite<'a> {
+    pub update: &'a str,
+    pub value: i64,
+    /// The index of its entry in the log.
+    pub place: usize,
+    /// The charged update that the update follows, if it was not charged itself.
+    pub follows: Option<&'a str>,
+}
+
+impl NotedWrite<'_> {
+    /// Returns its step.
+    pub fn step(&self) -> u64 {
+        (self.place as u64).saturating_add(1)
+    }
+}
+
 /// What explains the value of a read.
-#[derive(Clone, Copy, PartialEq, Eq)]
+#[derive(Clone, Copy)]
 pub enum Note<'a> {
     /// The read is off: an update that is not before the nearest placement wrote the value, or one before it the value
-    /// there, in the entry at this index. If an update that was not charged follows a charged one, this is `follows`.
-    Wrote {
-        update: &'a str,
-        value: i64,
-        place: usize,
-        follows: &'a str,
-    },
-    /// The read is exact, although the writer of its value is not before the nearest placement: the value is also that
-    /// of this update, or the opening value if this is nothing.
-    Equals {
-        update: &'a str,
-    },
+    /// there.
+    Wrote(NotedWrite<'a>),
+    /// The read is exact, although the writer of its value is not before the nearest placement: the value is also that of this
+    /// update, or the opening value if there is none.
+    Equals(Option<&'a str>),
 }
 
 /// A mark on a lane: an entry of the log.

@@ -2,7 +2,7 @@
 
 use crate::elements::{close_text, open_centred, push_circle, push_cross, push_square};
 use crate::layout::{Band, Column, TEXT_ROW};
-use crate::scene::{Action, Cause, Lane, Note, Scene};
+use crate::scene::{Action, Cause, Lane, Note, NotedWrite, Scene};
 use crate::titles::push_mark_title;
 use esr_text::{push_number, push_value};
 use std::alloc::AllocError;
@@ -52,44 +52,40 @@ fn push_values(
 }
 
 /// Appends the write that explains a read, in two rows.
-fn push_write(
-    out: &mut String,
-    update: &str,
-    value: i64,
-    place: usize,
-    x: u32,
-    y: u32,
-) -> Result<(), AllocError> {
+fn push_write(out: &mut String, write: &NotedWrite<'_>, x: u32, y: u32) -> Result<(), AllocError> {
+    let update = write.update;
     open_centred(out, "lb rd ha", x, y)?;
     write!(out, "{update} wrote ")?;
-    push_value(out, value)?;
+    push_value(out, write.value)?;
     close_text(out)?;
     open_centred(out, "lb rd ha", x, y.saturating_add(TEXT_ROW))?;
     out.push_str("in step ")?;
-    push_number(out, (place as u64).saturating_add(1))?;
+    push_number(out, write.step())?;
     close_text(out)
 }
 
-/// Appends which charged update an update follows.
+/// Appends which charged update the update of a write follows, if it was not charged itself.
 fn push_follows(
     out: &mut String,
-    update: &str,
-    follows: &str,
+    write: &NotedWrite<'_>,
     x: u32,
     y: u32,
 ) -> Result<(), AllocError> {
+    let Some(charged) = write.follows else {
+        return Ok(());
+    };
+    let update = write.update;
     open_centred(out, "lb rd ha", x, y)?;
-    write!(out, "{update} follows {follows}")?;
+    write!(out, "{update} follows {charged}")?;
     close_text(out)
 }
 
 /// Appends which update wrote the same as a read returned, or that it is the opening value.
-fn push_equal(out: &mut String, update: &str, x: u32, y: u32) -> Result<(), AllocError> {
+fn push_equal(out: &mut String, update: Option<&str>, x: u32, y: u32) -> Result<(), AllocError> {
     open_centred(out, "lb gy ha", x, y)?;
-    if update.is_empty() {
-        out.push_str("as at the start")?;
-    } else {
-        write!(out, "as {update} wrote")?;
+    match update {
+        Some(update) => write!(out, "as {update} wrote")?,
+        None => out.push_str("as at the start")?,
     }
     close_text(out)
 }
@@ -98,25 +94,12 @@ fn push_equal(out: &mut String, update: &str, x: u32, y: u32) -> Result<(), Allo
 fn push_note(out: &mut String, column: &Column<'_>, y: u32) -> Result<(), AllocError> {
     let mark = &column.mark;
     match mark.note {
-        Some(
-            Note::Wrote {
-                update,
-                value,
-                place,
-                follows,
-            },
-        ) => {
-            let mut y = y;
-            if mark.has_note {
-                push_write(out, update, value, place, column.x, y)?;
-                y = y.saturating_add(2 * TEXT_ROW);
-            }
-            if follows.is_empty() {
-                return Ok(());
-            }
-            push_follows(out, update, follows, column.x, y)
+        Some(Note::Wrote(write)) if mark.has_note => {
+            push_write(out, &write, column.x, y)?;
+            push_follows(out, &write, column.x, y.saturating_add(2 * TEXT_ROW))
         }
-        Some(Note::Equals { update }) => push_equal(out, update, column.x, y),
+        Some(Note::Wrote(write)) => push_follows(out, &write, column.x, y),
+        Some(Note::Equals(update)) => push_equal(out, update, column.x, y),
         None => Ok(()),
     }
 }

@@ -1,6 +1,6 @@
 //! The titles of marks and charges, which are shown when a pointer is over them.
 
-use crate::scene::{Action, Arrow, Cause, Lane, Mark, Note};
+use crate::scene::{Action, Arrow, Cause, Lane, Mark, Note, NotedWrite};
 use esr_outcomes::TxnKind;
 use esr_text::{push_number, push_value};
 use esr_trace::outcome_words;
@@ -66,28 +66,25 @@ fn push_nearest(out: &mut String, nearest: Option<i64>) -> Result<(), AllocError
     }
 }
 
+/// Appends a write that explains the value of a read.
+fn push_write(out: &mut String, write: &NotedWrite<'_>) -> Result<(), AllocError> {
+    let update = write.update;
+    write!(out, "; {update} wrote ")?;
+    push_value(out, write.value)?;
+    out.push_str(" in step ")?;
+    push_number(out, write.step())?;
+    match write.follows {
+        Some(charged) => write!(out, " and follows {charged}"),
+        None => Ok(()),
+    }
+}
+
 /// Appends what explains the value of a read.
 fn push_note(out: &mut String, note: Option<Note<'_>>) -> Result<(), AllocError> {
     match note {
-        Some(
-            Note::Wrote {
-                update,
-                value,
-                place,
-                follows,
-            },
-        ) => {
-            write!(out, "; {update} wrote ")?;
-            push_value(out, value)?;
-            out.push_str(" in step ")?;
-            push_number(out, (place as u64).saturating_add(1))?;
-            if follows.is_empty() {
-                return Ok(());
-            }
-            write!(out, " and follows {follows}")
-        }
-        Some(Note::Equals { update }) if update.is_empty() => out.push_str(", as at the start"),
-        Some(Note::Equals { update }) => write!(out, ", as {update} wrote"),
+        Some(Note::Wrote(write)) => push_write(out, &write),
+        Some(Note::Equals(Some(update))) => write!(out, ", as {update} wrote"),
+        Some(Note::Equals(None)) => out.push_str(", as at the start"),
         None => Ok(()),
     }
 }

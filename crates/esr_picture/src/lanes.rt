@@ -1,7 +1,8 @@
 //! The stretches of a lane: from each update that is drawn and wrote the item to the next one.
 //!
-//! A stretch has one version or several. Of several, the one at the line is drawn, and a few of those whose value was
-//! read, so that green always is a value that was read; the others are counted.
+//! A stretch has one version or several. Of several, the one at the line is drawn, the one of the update with which the stretch
+//! begins if it was read, and a few others whose value was read, so that green always is a value that was read; the rest is
+//! counted.
 
 use crate::arrow_reduction::Slots;
 use esr_cert::Chain;
@@ -104,14 +105,37 @@ impl LaneVersions<'_> {
         self.reads.get(version).is_some_and(|reads| *reads > 0)
     }
 
+    /// Returns whether the query read a version, and not only the same value of another one.
+    fn is_seen(&self, version: usize) -> bool {
+        self.seen.get(version) == Some(&true)
+    }
+
+    /// Returns whether a version of a stretch is drawn even if there is little space: the one at the line, and one that was
+    /// read and that a drawn update wrote.
+    fn is_due(&self, range: Range, version: usize) -> bool {
+        let is_of_update = range.from > 0 && version == range.start;
+        version == self.at_line || (is_of_update && self.is_seen(version))
+    }
+
+    /// Returns the versions of a stretch that are drawn even if there is little space.
+    fn due(&self, alloc: Global, range: Range) -> Result<Vec<usize>, AllocError> {
+        let mut due = Vec::new(alloc);
+        for version in range.start..range.end {
+            if self.is_due(range, version) {
+                due.push(version)?;
+            }
+        }
+        Ok(due)
+    }
+
     /// Returns the rank of a version among those whose value was read: less for one that was read itself, and then for one
     /// that is closer to the line.
     fn rank(&self, version: usize) -> (bool, usize, usize) {
-        let is_seen = self.seen.get(version) == Some(&true);
+        let is_seen = self.is_seen(version);
         (!is_seen, version.abs_diff(self.at_line), version)
     }
 
-    /// Returns the versions of a stretch whose value was read, those with the least rank first, without that at the line.
+    /// Returns the other versions of a stretch whose value was read, those with the least rank first.
     fn candidates(
         &self,
         alloc: Global,
@@ -119,7 +143,7 @@ impl LaneVersions<'_> {
     ) -> Result<Vec<(bool, usize, usize)>, AllocError> {
         let mut ranks = Vec::new(alloc);
         for version in range.start..range.end {
-            if version != self.at_line && self.fits(version) {
+            if self.fits(version) && !self.is_due(range, version) {
                 ranks.push(self.rank(version))?;
             }
         }
@@ -134,11 +158,11 @@ impl LaneVersions<'_> {
 
     /// Returns the versions of a stretch that are drawn, ascending.
     fn drawn(&self, alloc: Global, range: Range) -> Result<Vec<usize>, AllocError> {
-        let mut drawn = Vec::new(alloc);
-        if range.start <= self.at_line && self.at_line < range.end {
-            drawn.push(self.at_line)?;
-        }
-        let upper_bound = drawn.len().saturating_add(self.reads_drawn);
+        let mut drawn = self.due(alloc, range)?;
+        let has_line = range.start <= self.at_line && self.at_line < range.end;
+        let upper_bound = self
+            .reads_drawn
+            .saturating_add(if has_line { 1 } else { 0 });
         let mut letters = 0usize;
         for (_, _, version) in &self.candidates(alloc, range)? {
             letters = letters.saturating_add(self.letters(*version));

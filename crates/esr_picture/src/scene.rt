@@ -17,12 +17,18 @@ use esr_svg::{
     Arrow, Deciding, Lane, LaneReads, LaneSegment, MAX_UPDATES, Scene, Update, updates_to_keep,
 };
 use esr_text::first;
-use esr_trace::{Audited, Placement, QueryTrace, relevant_updates, sentences_of};
+use esr_trace::{Audited, NearestPlacement, QueryTrace, relevant_updates, sentences_of};
 use std::alloc::{AllocError, Global};
 
-/// The number of times that a scene that is too wide is rebuilt with fewer updates. After that it has no updates, and
-/// then no values read within dotted segments.
+/// The number of times that a scene that is too wide is rebuilt with fewer updates, but at least [`FEW_RELEVANT`].
 const MAX_TRIES: u32 = 12;
+
+/// The number of tries after that: with these updates down to one, and some values read within dotted segments; with these
+/// updates and no such value; with one update before the line; and with none.
+const LAST_TRIES: u32 = 15;
+
+/// The maximum number of values read within each stretch of several.
+const MAX_READS: usize = 2;
 
 /// The maximum number of items without a lane that are named.
 const MAX_NAMES: usize = 3;
@@ -42,15 +48,23 @@ impl Extent {
     /// Returns the extent of the next try, of a scene in which `fitting` updates would fit.
     fn reduced(self, fitting: usize, tries: u32) -> Extent {
         let mut reduced = self;
-        if self.updates == 0 {
+        let fewer = self.updates.saturating_sub(1);
+        let has_cause = self.updates > 0 && !self.is_before_line;
+        if self.updates > FEW_RELEVANT {
+            let fitting = if tries < MAX_TRIES { fitting } else { 0 };
+            reduced.updates = fitting.max(FEW_RELEVANT).min(fewer);
+        } else if self.reads > 1 || (self.reads == 1 && !has_cause) {
             reduced.reads = self.reads.saturating_sub(1);
-        } else if self.updates == 1 && !self.is_before_line {
+        } else if self.updates > 1 {
+            reduced.updates = fewer;
+            reduced.reads = self.reads.saturating_mul(MAX_READS);
+        } else if self.reads == 1 {
+            reduced.updates = FEW_RELEVANT;
+            reduced.reads = 0;
+        } else if self.updates > 0 {
+            reduced.updates = if has_cause { 1 } else { 0 };
             reduced.is_before_line = true;
-        } else if tries < MAX_TRIES {
-            let less = self.updates.saturating_sub(1);
-            reduced.updates = fitting.max(1).min(less);
-        } else {
-            reduced.updates = 0;
+            reduced.reads = MAX_READS;
         }
         reduced
     }
@@ -84,7 +98,7 @@ fn relevant_positions(
     trace: &QueryTrace,
     positions: &Positions,
 ) -> Result<Vec<u32>, AllocError> {
-    let placement = Placement::after(alloc, audited.history, &audited.finding.before)?;
+    let placement = NearestPlacement::after(alloc, audited.history, &audited.finding.before)?;
     let causes = placement.causes(alloc, audited.history, trace)?;
     let updates = relevant_updates(alloc, trace, &causes, &[], MAX_UPDATES)?;
     let mut relevant = Vec::new(alloc);
@@ -466,10 +480,10 @@ pub fn scene_of<'a>(
     let mut extent = Extent {
         updates: MAX_UPDATES,
         is_before_line: false,
-        reads: 2,
+        reads: MAX_READS,
     };
     let mut scene = scene_with(alloc, &source, extent)?;
-    for tries in 1..MAX_TRIES + 5 {
+    for tries in 1..MAX_TRIES + LAST_TRIES {
         let Some(fitting) = updates_to_keep(alloc, &scene)? else {
             break;
         };

@@ -41,6 +41,18 @@ pub fn push_text(
     close_text(out, words)
 }
 
+/// Appends a box in the colour of the background below a text of this width that begins at x, so that no line runs through the
+/// text.
+pub fn push_ground(out: &mut String, x: u32, y: u32, width: u32) -> Result<(), AllocError> {
+    let left = x.saturating_sub(2);
+    let top = y.saturating_sub(11);
+    let width = width.saturating_add(4);
+    write!(
+        out,
+        "<rect class='p' x='{left}' y='{top}' width='{width}' height='15'/>"
+    )
+}
+
 /// Appends a line from the left to the right.
 pub fn push_horizontal(
     out: &mut String,

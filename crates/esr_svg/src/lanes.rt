@@ -1,13 +1,17 @@
 //! The lanes of a picture, and the line across them.
 
 use crate::elements::{
-    close_text, open_before, open_centred, open_text, push_horizontal, push_straight, push_text,
-    push_vertical,
+    close_text, open_before, open_centred, open_text, push_ground, push_horizontal, push_straight,
+    push_text, push_vertical,
 };
 use crate::layout::{Layout, MARGIN, TRANSIENT_READ_INDENT, TransientReadLineCount};
 use crate::parts::push_segment;
 use crate::scene::{Lane, LaneReads, SameValue, Scene, TransientRead, TransientReads};
 use crate::slots::slot_after;
+use crate::widths::{
+    TransientReadWidths, difference_width, transient_read_widths, weighted_difference_width,
+    width_of,
+};
 use esr_text::{push_number, push_value};
 use std::alloc::{AllocError, Global};
 
@@ -200,6 +204,25 @@ fn push_ending(
     }
 }
 
+/// Appends the boxes below the text on a value that is not a version.
+fn push_transient_grounds(
+    out: &mut String,
+    widths: TransientReadWidths,
+    x: u32,
+    y: u32,
+    is_folded: bool,
+) -> Result<(), AllocError> {
+    let TransientReadWidths {
+        value_width,
+        reason_width,
+    } = widths;
+    if !is_folded {
+        return push_ground(out, x, y, value_width.saturating_add(reason_width));
+    }
+    push_ground(out, x, y, value_width)?;
+    push_ground(out, x, y.saturating_add(16), reason_width)
+}
+
 /// Appends the text on a value that is not a version.
 fn push_transient_read(
     out: &mut String,
@@ -248,6 +271,7 @@ fn push_transient_reads(
     )?;
     let x = left.saturating_add(TRANSIENT_READ_INDENT);
     let is_folded = layout.transient_read_lines == TransientReadLineCount::Two;
+    push_transient_grounds(out, transient_read_widths(transient_reads), x, y, is_folded)?;
     push_transient_read(out, transient_read, transient_reads.more, x, y, is_folded)
 }
 
@@ -288,19 +312,24 @@ fn push_off(
     out.push_str("</text>\n")
 }
 
-/// Appends the start of the text of a lane at the line, on the side where there is space.
+/// Appends the start of the text of a lane at the line, of this width, on the side where there is space.
 fn open_at_line(
     out: &mut String,
     class: &str,
     x: u32,
     y: u32,
+    width: u32,
     is_left_of_line: bool,
 ) -> Result<(), AllocError> {
     let y = y.saturating_add(24);
     if is_left_of_line {
-        open_before(out, class, x.saturating_sub(10), y)
+        let end = x.saturating_sub(10);
+        push_ground(out, end.saturating_sub(width), y, width)?;
+        open_before(out, class, end, y)
     } else {
-        open_text(out, class, x.saturating_add(10), y)
+        let start = x.saturating_add(10);
+        push_ground(out, start, y, width)?;
+        open_text(out, class, start, y)
     }
 }
 
@@ -315,12 +344,17 @@ fn push_crossing(
     let x = layout.x(query_slot);
     let is_left_of_line = layout.are_differences_left_of_line(query_slot);
     if lane.difference == 0 {
-        open_at_line(out, "m g o", x, y, is_left_of_line)?;
+        open_at_line(out, "m g o", x, y, width_of(7), is_left_of_line)?;
         return out.push_str("as read</text>\n");
     }
     write!(out, "<circle class='c' cx='{x}' cy='{y}' r='5'/>")?;
-    open_at_line(out, "m r o", x, y, is_left_of_line)?;
     let has_weight_note = layout.has_space_for_weights(query_slot);
+    let width = if lane.weight > 1 && has_weight_note {
+        weighted_difference_width(lane)
+    } else {
+        difference_width(lane)
+    };
+    open_at_line(out, "m r o", x, y, width, is_left_of_line)?;
     push_off(out, lane.difference, lane.weight, has_weight_note)
 }
 

@@ -3,10 +3,10 @@
 //! Green is a version whose value was read, and nothing else: several versions are grey, whatever was read of them, and
 //! their text counts those that were read. The version at the line is always drawn, so that its value can be compared.
 
-use crate::elements::{open_text, push_horizontal_titled};
+use crate::elements::{open_text, push_ground, push_horizontal_titled};
 use crate::layout::Layout;
 use crate::scene::{LanePart, LaneSegment};
-use crate::widths::{BEFORE_LINE, part_width};
+use crate::widths::{BEFORE_LINE, part_text_width, part_width};
 use esr_text::{push_count, push_number, push_value};
 use std::alloc::{AllocError, Global};
 
@@ -145,6 +145,7 @@ fn push_part_text(
     x: u32,
     y: u32,
 ) -> Result<(), AllocError> {
+    push_ground(out, x, y, part_text_width(part))?;
     match part {
         LanePart::Version { value, reads } => {
             open_text(out, "m o", x, y)?;

@@ -63,9 +63,14 @@ fn part_letters(part: LanePart) -> usize {
     }
 }
 
+/// Returns the width of the text of a part of a stretch.
+pub fn part_text_width(part: LanePart) -> u32 {
+    width_of(part_letters(part))
+}
+
 /// Returns the width that a part of a stretch needs.
 pub fn part_width(part: LanePart) -> u32 {
-    width_of(part_letters(part)).saturating_add(24)
+    part_text_width(part).saturating_add(24)
 }
 
 /// Returns the width that some parts need.

@@ -12,7 +12,7 @@ use esr_chart::{Arrow, Relation};
 use esr_history::{Event, TxnId};
 use esr_items::ItemId;
 use esr_outcomes::QueryAudit;
-use esr_trace::{ObservedRead, Placement, QueryTrace};
+use esr_trace::{NearestPlacement, ObservedRead, QueryTrace};
 use std::alloc::{AllocError, Global};
 
 /// The distances of the reads of a query that are off, by what explains them. All are 0 if the query is not off.
@@ -24,7 +24,7 @@ pub struct Causes {
     /// follow it, and that are not before the placement.
     by_writer: Vec<u64>,
     /// The nearest placement.
-    placement: Placement,
+    placement: NearestPlacement,
     /// The charged updates that the updates that are not before the placement follow.
     predecessors: ChargedPredecessors,
 }
@@ -47,7 +47,7 @@ impl Causes {
         Causes {
             by_item: Vec::new(alloc),
             by_writer: Vec::new(alloc),
-            placement: Placement::none(alloc),
+            placement: NearestPlacement::none(alloc),
             predecessors: ChargedPredecessors::none(alloc),
         }
     }
@@ -102,7 +102,7 @@ impl Causes {
         trace: &QueryTrace,
     ) -> Result<(), AllocError> {
         let count = source.history.begun_count().saturating_add(1);
-        self.placement = Placement::after(alloc, source.history, &audit.before)?;
+        self.placement = NearestPlacement::after(alloc, source.history, &audit.before)?;
         self.by_item = vec![in alloc; 0u64; source.history.items() as usize]?;
         self.by_writer = vec![in alloc; 0u64; count]?;
         self.predecessors = ChargedPredecessors::of(alloc, source, query, trace, &self.placement)?;

@@ -7,7 +7,7 @@ use esr_history::{Entry, Event, Refusal, Reply, TxnId};
 use esr_outcomes::{Auditor, TxnKind, kind_at, kinds_of, outcome_of};
 use esr_report::name_of_transaction;
 use esr_text::first;
-use esr_trace::{Placement, QueryTrace, relevant_updates};
+use esr_trace::{NearestPlacement, QueryTrace, relevant_updates};
 use std::alloc::{AllocError, Global};
 
 /// The maximum number of lanes.
@@ -176,13 +176,13 @@ fn placement_of(
     alloc: Global,
     source: Source<'_>,
     lane: &Lane<'_>,
-) -> Result<Placement, AllocError> {
+) -> Result<NearestPlacement, AllocError> {
     if lane.distance.is_none() {
-        return Ok(Placement::none(alloc));
+        return Ok(NearestPlacement::none(alloc));
     }
     match source.auditor.summary(alloc, lane.txn)? {
-        Some(audit) => Placement::after(alloc, source.history, &audit.before),
-        None => Ok(Placement::none(alloc)),
+        Some(audit) => NearestPlacement::after(alloc, source.history, &audit.before),
+        None => Ok(NearestPlacement::none(alloc)),
     }
 }
 
@@ -240,7 +240,7 @@ pub fn placements_of(
     alloc: Global,
     source: Source<'_>,
     lanes: &[Lane<'_>],
-) -> Result<Vec<Placement>, AllocError> {
+) -> Result<Vec<NearestPlacement>, AllocError> {
     let mut all = Vec::new(alloc);
     for lane in lanes {
         all.push(placement_of(alloc, source, lane)?)?;

@@ -7,7 +7,7 @@ use esr_chart::{Action, Arrow, Cause, Lane, Mark, Mistakes, Note};
 use esr_history::{Entry, Event, Refusal, Reply, TxnId};
 use esr_items::{ItemId, Metric};
 use esr_report::name_of_transaction;
-use esr_trace::Placement;
+use esr_trace::NearestPlacement;
 use std::alloc::{AllocError, Global};
 
 /// Returns the line of an entry, or 0 if it is not known.
@@ -88,7 +88,7 @@ fn blocker_name<'a>(source: Source<'a>, reply: Reply) -> &'a str {
 }
 
 /// Returns the action of a read with the value in the nearest placement, if that is another one.
-fn compared(value: i64, placement: &Placement, item: ItemId) -> Action {
+fn compared(value: i64, placement: &NearestPlacement, item: ItemId) -> Action {
     Action::Read {
         value,
         nearest: placement.value(item.0).filter(|there| *there != value),
@@ -118,7 +118,12 @@ fn mark_with<'a>(
 }
 
 /// Compares the mark of a read of a query with this nearest placement, and adds a note if its value needs one.
-fn compare<'a>(source: Source<'a>, placement: &Placement, mark: &mut Mark<'a>, event: Event) {
+fn compare<'a>(
+    source: Source<'a>,
+    placement: &NearestPlacement,
+    mark: &mut Mark<'a>,
+    event: Event,
+) {
     let Action::Read { value, .. } = mark.action else {
         return;
     };
@@ -138,7 +143,7 @@ fn compare<'a>(source: Source<'a>, placement: &Placement, mark: &mut Mark<'a>, e
 fn mark_of<'a>(
     source: Source<'a>,
     lanes: &[Lane<'a>],
-    placements: &[Placement],
+    placements: &[NearestPlacement],
     place: usize,
     entry: Entry,
 ) -> Option<Mark<'a>> {
@@ -249,7 +254,7 @@ fn push_marks<'a>(
     all: &mut Marks<'a>,
     source: Source<'a>,
     lanes: &[Lane<'a>],
-    placements: &[Placement],
+    placements: &[NearestPlacement],
 ) -> Result<(), AllocError> {
     let log = source.history.log();
     for place in 0..log.len() {
@@ -350,12 +355,12 @@ fn mark_blocked(marks: &mut [Mark<'_>], has_blocked: bool) {
 
 /// Returns the index of the write that explains a read, if it is on a lane.
 fn write_of(marks: &[Mark<'_>], read: &Mark<'_>) -> Option<usize> {
-    match read.note {
-        Some(Note::Wrote { place, .. }) => marks
-            .binary_search_by_key(&place, |mark| mark.place)
-            .ok(),
-        _ => None,
-    }
+    let Some(Note::Wrote(write)) = read.note else {
+        return None;
+    };
+    marks
+        .binary_search_by_key(&write.place, |mark| mark.place)
+        .ok()
 }
 
 /// Marks the event at an index.

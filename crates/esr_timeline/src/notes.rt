@@ -6,12 +6,12 @@
 
 use crate::causes::Causes;
 use crate::source::Source;
-use esr_chart::{Mark, Note};
+use esr_chart::{Mark, Note, NotedWrite};
 use esr_history::{Event, TxnId};
 use esr_items::ItemId;
 use esr_outcomes::{TxnOutcome, outcome_of};
 use esr_report::name_of_transaction;
-use esr_trace::Placement;
+use esr_trace::NearestPlacement;
 
 /// An accepted write.
 #[derive(Clone, Copy)]
@@ -57,7 +57,7 @@ fn write_read(source: Source<'_>, place: usize) -> Option<Write> {
 }
 
 /// Returns the write of the value of an item in a placement, unless that is the opening value.
-fn write_kept(source: Source<'_>, placement: &Placement, item: ItemId) -> Option<Write> {
+fn write_kept(source: Source<'_>, placement: &NearestPlacement, item: ItemId) -> Option<Write> {
     let mut next = source.history.last_on_item(item);
     for _ in 0..source.history.log().len() {
         let index = next?;
@@ -73,42 +73,33 @@ fn write_kept(source: Source<'_>, placement: &Placement, item: ItemId) -> Option
 
 /// Returns a write as a note.
 fn wrote<'a>(source: Source<'a>, write: Write) -> Note<'a> {
-    Note::Wrote {
+    Note::Wrote(NotedWrite {
         update: name_of_transaction(source.transactions, write.update),
         value: write.value,
         place: write.place,
-        follows: "",
-    }
+        follows: None,
+    })
 }
 
-/// Returns the name of the charged update that the writer of an entry follows, or nothing if it was charged itself or is
-/// before the nearest placement.
-fn followed_by<'a>(source: Source<'a>, causes: &Causes, place: usize) -> &'a str {
-    let Some(write) = write_at(source, place as u64) else {
-        return "";
-    };
+/// Returns the name of the charged update that the writer of an entry follows, unless it was charged itself or is before the
+/// nearest placement.
+fn followed_by<'a>(source: Source<'a>, causes: &Causes, place: usize) -> Option<&'a str> {
+    let write = write_at(source, place as u64)?;
     match causes.cause_of(write.update) {
-        Some(cause) if cause != write.update => name_of_transaction(source.transactions, cause),
-        _ => "",
+        Some(cause) if cause != write.update => {
+            Some(name_of_transaction(source.transactions, cause))
+        }
+        _ => None,
     }
 }
 
 /// Returns a note with the name of the charged update that its writer follows.
 fn completed<'a>(source: Source<'a>, causes: &Causes, note: Option<Note<'a>>) -> Option<Note<'a>> {
     match note {
-        Some(
-            Note::Wrote {
-                update,
-                value,
-                place,
-                ..
-            },
-        ) => Some(Note::Wrote {
-            update,
-            value,
-            place,
-            follows: followed_by(source, causes, place),
-        }),
+        Some(Note::Wrote(write)) => Some(Note::Wrote(NotedWrite {
+            follows: followed_by(source, causes, write.place),
+            ..write
+        })),
         _ => note,
     }
 }
@@ -133,7 +124,7 @@ pub fn complete_notes<'a>(
 /// placement.
 pub fn note_of<'a>(
     source: Source<'a>,
-    placement: &Placement,
+    placement: &NearestPlacement,
     place: usize,
     item: ItemId,
     is_off: bool,
@@ -142,12 +133,11 @@ pub fn note_of<'a>(
     match (late, is_off) {
         (Some(write), true) => Some(wrote(source, write)),
         (None, true) => write_kept(source, placement, item).map(|write| wrote(source, write)),
-        (Some(_), false) => Some(Note::Equals {
-            update: match placement.writer(item.0) {
-                Some(update) => name_of_transaction(source.transactions, update),
-                None => "",
-            },
-        }),
+        (Some(_), false) => {
+            let writer = placement.writer(item.0);
+            let update = writer.map(|update| name_of_transaction(source.transactions, update));
+            Some(Note::Equals(update))
+        }
         (None, false) => None,
     }
 }

@@ -8,7 +8,7 @@
 use crate::source::Source;
 use esr_history::TxnId;
 use esr_order::{Access, accesses_of};
-use esr_trace::{Placement, QueryTrace};
+use esr_trace::{NearestPlacement, QueryTrace};
 use std::alloc::{AllocError, Global};
 
 /// The charged updates that the updates of a history are or follow. 0 is the number of none.
@@ -133,7 +133,7 @@ impl ChargedPredecessors {
         alloc: Global,
         source: Source<'_>,
         query: TxnId,
-        placement: &Placement,
+        placement: &NearestPlacement,
     ) -> Result<(), AllocError> {
         for txn in source.auditor.commits() {
             if *txn == query {
@@ -152,7 +152,7 @@ impl ChargedPredecessors {
         source: Source<'_>,
         query: TxnId,
         trace: &QueryTrace,
-        placement: &Placement,
+        placement: &NearestPlacement,
     ) -> Result<ChargedPredecessors, AllocError> {
         let items = source.history.items() as usize;
         let numbers = source.history.begun_count().saturating_add(1);

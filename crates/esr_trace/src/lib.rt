@@ -15,7 +15,7 @@ mod trace;
 mod traces;
 
 pub use part::Part;
-pub use relevance::{Placement, relevant_updates};
+pub use relevance::{NearestPlacement, relevant_updates};
 pub use sentences::{push_nearest_moment, push_strict, push_verdict, sentences_of};
 pub use subject::Audited;
 pub use sum_errors::sum_error;

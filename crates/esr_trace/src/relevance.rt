@@ -14,7 +14,7 @@ use std::alloc::{AllocError, Global};
 
 /// The nearest placement of a query.
 #[derive(Drop)]
-pub struct Placement {
+pub struct NearestPlacement {
     /// For each transaction by its number: whether it is an update before the placement.
     is_before: Vec<bool>,
     /// For each item: the number of the update that wrote its value in the placement, or 0 for the opening value.
@@ -34,7 +34,7 @@ fn flags_of(alloc: Global, before: &[TxnId], count: usize) -> Result<Vec<bool>, 
     Ok(flags)
 }
 
-impl Placement {
+impl NearestPlacement {
     /// Notes the writes of an update.
     fn note(&mut self, update: TxnId, accesses: &[Access]) {
         for access in accesses {
@@ -55,9 +55,9 @@ impl Placement {
         alloc: Global,
         history: &History<Weighted>,
         before: &[TxnId],
-    ) -> Result<Placement, AllocError> {
+    ) -> Result<NearestPlacement, AllocError> {
         let numbers = history.begun_count().saturating_add(1);
-        let mut placement = Placement {
+        let mut placement = NearestPlacement {
             is_before: flags_of(alloc, before, numbers)?,
             writers: vec![in alloc; 0u32; history.items() as usize]?,
             values: history.opening_values().to_vec(alloc)?,
@@ -75,8 +75,8 @@ impl Placement {
     }
 
     /// Returns a placement without items, which no read differs from.
-    pub fn none(alloc: Global) -> Placement {
-        Placement {
+    pub fn none(alloc: Global) -> NearestPlacement {
+        NearestPlacement {
             is_before: Vec::new(alloc),
             writers: Vec::new(alloc),
             values: Vec::new(alloc),

@@ -192,37 +192,45 @@ fn absence_of(audited: &Audited<'_>, trace: &QueryTrace, update: TxnId) -> Optio
     }
 }
 
-/// Returns the updates that were charged and have no box for this reason, those that were charged most first.
+/// Returns the charges of the updates that have no box for this reason, the greatest first.
 fn absent(
     alloc: Global,
     audited: &Audited<'_>,
     trace: &QueryTrace,
     charges: &[Sum],
     reason: Absence,
-) -> Result<Vec<TxnId>, AllocError> {
+) -> Result<Vec<Sum>, AllocError> {
     let mut absent = Vec::new(alloc);
     for charge in charges {
-        let update = TxnId(charge.number);
-        if absence_of(audited, trace, update) == Some(reason) {
-            absent.push(update)?;
+        if absence_of(audited, trace, TxnId(charge.number)) == Some(reason) {
+            absent.push(*charge)?;
         }
     }
     Ok(absent)
 }
 
-/// Appends the first names of some updates, and the number of the others.
+/// Returns the sum of some charges.
+fn total_of(charges: &[Sum]) -> u64 {
+    let mut total = 0u64;
+    for charge in charges {
+        total = total.saturating_add(charge.amount);
+    }
+    total
+}
+
+/// Appends the names of the updates of the first of some charges, and the number of the others.
 fn push_first_names(
     out: &mut String,
     audited: &Audited<'_>,
-    updates: &[TxnId],
+    charges: &[Sum],
 ) -> Result<(), AllocError> {
     let mut joint = "";
-    for update in first(updates, MAX_ABSENT) {
+    for charge in first(charges, MAX_ABSENT) {
         out.push_str(joint)?;
-        out.push_str(name(audited, *update))?;
+        out.push_str(name(audited, TxnId(charge.number)))?;
         joint = ", ";
     }
-    let others = updates.len().saturating_sub(MAX_ABSENT);
+    let others = charges.len().saturating_sub(MAX_ABSENT);
     if others > 0 {
         out.push_str(" and ")?;
         push_number(out, others as u64)?;
@@ -260,7 +268,7 @@ fn push_reason(
     }
 }
 
-/// Appends which updates were charged and have no box for this reason, if there are any.
+/// Appends which updates were charged and have no box for this reason, and the sum of their charges, if there are any.
 fn push_absent(
     alloc: Global,
     out: &mut String,
@@ -278,7 +286,9 @@ fn push_absent(
     let query = name(audited, audited.finding.query);
     let is_one = absent.len() == 1;
     let has = if is_one { "has" } else { "have" };
-    write!(out, " charged {query} but {has} no box")?;
+    write!(out, " charged {query} ")?;
+    push_number(out, total_of(&absent))?;
+    write!(out, " but {has} no box")?;
     push_reason(out, query, reason, is_one)
 }
 
