@@ -1,5 +1,5 @@
 -- Tables of places, entry after entry.
-use Rattle.std.proofs.Common.{◌≡◌, ℕ, zero, suc, ◌+◌, ◌-◌, ◌<◌, ◌≤◌, Bool, true, false, List, [], ◌∷◌, ◌++◌, length, take, get_or, refl, sym, ◌∙◌, ap, arith, ⊎_elim, filter, cond, map, Option, Some, None, slice_set, add-one, append-nil, replicate, slice_index_or, if◌then◌else◌, option_map}
+use Rattle.std.proofs.Common.{◌≡◌, ℕ, zero, suc, ◌+◌, ◌-◌, ◌<◌, ◌≤◌, Bool, true, false, List, [], ◌∷◌, ◌++◌, length, take, get_or, refl, sym, ◌∙◌, ap, arith, ⊎_elim, filter, cond, map, Option, Some, None, slice_set, unwrap_or, add-one, append-nil, replicate, slice_index_or, if◌then◌else◌, option_map}
 use Rattle.std.specs.List.{last_or, range_with_len, slice_get, cons_option}
 use Rattle.std.proofs.Math.Seq.{take-append_seam}
 use Rattle.std.proofs.lemmas.Bool.{cases_lt, eq-eqb, ne_eqb}
@@ -8,10 +8,9 @@ use Rattle.std.proofs.lemmas.List.Elements.{filter-append, filter_map-append}
 use Rattle.std.proofs.lemmas.Option.{slice_get_past}
 use Rattle.esr_history.specs.declared.back_links.Begin.{Begin}
 use Rattle.esr_history.specs.declared.back_links.BackLinks.{BackLinks}
-use Rattle.esr_history.specs.Events.{BeginRecord, is_query_kind, is_refusal, accepted, begin_records, begin_record_of, Event, BeginUpdate, BeginQuery, Read, Write, Commit, Abort, Reply, Entry}
-use Rattle.esr_history.specs.BackLinks.{item_of, txn_of, ender, item_in, txn_in, accepted_item, accepted_txn, ended_txn, facts_by, facts_of, is_some_eq, places_from, last_place, last_of_key, earlier, earlier_at, coded, decoded, key_at, links_by, lasts_by, begin_of, begun_count, AreLinks, IsFit, with_key, txns_after, ends_after, begins_after, IsNumbered, Facts}
+use Rattle.esr_history.specs.Events.{BeginRecord, is_query_kind, is_refusal, accepted, begin_records, begin_record_of, Update, Query, Event, BeginUpdate, BeginQuery, Read, Write, Commit, Abort, Reply, Entry}
+use Rattle.esr_history.specs.BackLinks.{item_of, txn_of, ender, item_in, txn_in, accepted_item, accepted_txn, beginner, begun_txn, ended_txn, facts_by, facts_of, begin_place, is_some_eq, places_from, last_place, last_of_key, earlier, earlier_at, coded, decoded, key_at, links_by, lasts_by, record_in, begun_count, AreLinks, IsFit, with_key, txns_after, ends_after, begins_after, IsNumbered, Facts}
 use Rattle.esr_history.proofs.Charges.{range-push}
-use Rattle.esr_history.proofs.KindLaws.{query_kind}
 use Rattle.esr_history.proofs.Membership.{get_seam}
 use Rattle.esr_history.proofs.Lists.{last_or_push, slice_get_push}
 
@@ -130,11 +129,11 @@ count_same es e is none = ap length (begins_push es e is ∙ (ap (λ o. begin_re
 pub count_more : (es : List Entry) (e : Entry) (b : BeginRecord) → is_refusal e.reply ≡ false → begin_record_of e.event ≡ Some b → begun_count (es ++ e ∷ []) ≡ begun_count es + 1
 count_more es e b is some = ap length (begins_push es e is ∙ ap (λ o. begin_records (accepted es) ++ cons_option o []) some) ∙ length-append (begin_records (accepted es)) (b ∷ [])
 
-begins_same : (es : List Entry) (e : Entry) → is_refusal e.reply ≡ false → begin_record_of e.event ≡ None → map begin_of (begin_records (accepted (es ++ e ∷ []))) ≡ map begin_of (begin_records (accepted es))
-begins_same es e is none = ap (map begin_of) (begins_push es e is ∙ (ap (λ o. begin_records (accepted es) ++ cons_option o []) none ∙ append-nil (begin_records (accepted es))))
+begins_same : (es : List Entry) (e : Entry) → is_refusal e.reply ≡ false → begin_record_of e.event ≡ None → begin_records (accepted (es ++ e ∷ [])) ≡ begin_records (accepted es)
+begins_same es e is none = begins_push es e is ∙ (ap (λ o. begin_records (accepted es) ++ cons_option o []) none ∙ append-nil (begin_records (accepted es)))
 
-begins_more : (es : List Entry) (e : Entry) (b : BeginRecord) → is_refusal e.reply ≡ false → begin_record_of e.event ≡ Some b → map begin_of (begin_records (accepted (es ++ e ∷ []))) ≡ map begin_of (begin_records (accepted es)) ++ begin_of b ∷ []
-begins_more es e b is some = ap (map begin_of) (begins_push es e is ∙ ap (λ o. begin_records (accepted es) ++ cons_option o []) some) ∙ map-append begin_of (begin_records (accepted es)) (b ∷ [])
+begins_more : (es : List Entry) (e : Entry) (b : BeginRecord) → is_refusal e.reply ≡ false → begin_record_of e.event ≡ Some b → begin_records (accepted (es ++ e ∷ [])) ≡ begin_records (accepted es) ++ b ∷ []
+begins_more es e b is some = begins_push es e is ∙ ap (λ o. begin_records (accepted es) ++ cons_option o []) some
 
 -- the tables of keys after an accepted entry
 items_after : (es : List Entry) (e : Entry) (n : ℕ) → is_refusal e.reply ≡ false → lasts_by accepted_item (es ++ e ∷ []) n ≡ with_key (lasts_by accepted_item es n) (item_of e.event) (length es + 1)
@@ -152,6 +151,9 @@ module _ (es : List Entry) (e : Entry) (is : is_refusal e.reply ≡ false) (none
   ends_known : (t : ℕ) → ender e.event ≡ Some t → lasts_by ended_txn (es ++ e ∷ []) (begun_count (es ++ e ∷ []) + 1) ≡ slice_set (lasts_by ended_txn es (begun_count es + 1)) t (length es + 1)
   ends_known t own = grind (arith, count_same es e is none, lasts_some)
 
+  codes_same : beginner e.event e.reply ≡ None → lasts_by begun_txn (es ++ e ∷ []) (begun_count (es ++ e ∷ []) + 1) ≡ lasts_by begun_txn es (begun_count es + 1)
+  codes_same own = grind (arith, count_same es e is none, lasts_none)
+
   ends_none : ender e.event ≡ None → lasts_by ended_txn (es ++ e ∷ []) (begun_count (es ++ e ∷ []) + 1) ≡ lasts_by ended_txn es (begun_count es + 1)
   ends_none own = grind (arith, count_same es e is none, lasts_none)
 
@@ -160,14 +162,20 @@ module _ (es : List Entry) (e : Entry) (is : is_refusal e.reply ≡ false) (b : 
   count : begun_count (es ++ e ∷ []) ≡ begun_count es + 1
   count = count_more es e b is some
 
+  -- a table of keys of which the new one is the begin's
+  lasts_begun : (at : Entry → Option ℕ) → at e ≡ Some (begun_count es + 1) → lasts_by at (es ++ e ∷ []) (begun_count (es ++ e ∷ []) + 1) ≡ lasts_by at es (begun_count es + 1) ++ (length es + 1) ∷ []
+  lasts_begun at key =
+      ap (λ n. lasts_by at (es ++ e ∷ []) (n + 1)) count
+      ∙ (lasts_grow at (es ++ e ∷ []) (begun_count es + 1)
+      ∙ (ap (λ l. l ++ coded (last_place at (begun_count es + 1) (es ++ e ∷ [])) ∷ [])
+      (lasts_agree at es e (begun_count es + 1) (λ k l. ap (λ o. is_some_eq o k) key ∙ ne_eqb (begun_count es + 1) k (λ f. absurd (omega (arith, f, l)))))
+      ∙ ap (λ o. lasts_by at es (begun_count es + 1) ++ coded o ∷ []) (last_here at (begun_count es + 1) es e (ap (λ o. is_some_eq o (begun_count es + 1)) key ∙ eq-eqb (begun_count es + 1) (begun_count es + 1) refl))))
+
   txns_begun : txn_of e.event e.reply ≡ Some (begun_count es + 1) → lasts_by accepted_txn (es ++ e ∷ []) (begun_count (es ++ e ∷ []) + 1) ≡ lasts_by accepted_txn es (begun_count es + 1) ++ (length es + 1) ∷ []
-  txns_begun own =
-      let key : accepted_txn e ≡ Some (begun_count es + 1) = ap (λ b. if b then None else txn_of e.event e.reply) is ∙ own in
-      ap (λ n. lasts_by accepted_txn (es ++ e ∷ []) (n + 1)) count
-      ∙ (lasts_grow accepted_txn (es ++ e ∷ []) (begun_count es + 1)
-      ∙ (ap (λ l. l ++ coded (last_place accepted_txn (begun_count es + 1) (es ++ e ∷ [])) ∷ [])
-      (lasts_agree accepted_txn es e (begun_count es + 1) (λ k l. ap (λ o. is_some_eq o k) key ∙ ne_eqb (begun_count es + 1) k (λ f. absurd (omega (arith, f, l)))))
-      ∙ ap (λ o. lasts_by accepted_txn es (begun_count es + 1) ++ coded o ∷ []) (last_here accepted_txn (begun_count es + 1) es e (ap (λ o. is_some_eq o (begun_count es + 1)) key ∙ eq-eqb (begun_count es + 1) (begun_count es + 1) refl))))
+  txns_begun own = lasts_begun accepted_txn (ap (λ b. if b then None else txn_of e.event e.reply) is ∙ own)
+
+  codes_more : beginner e.event e.reply ≡ Some (begun_count es + 1) → lasts_by begun_txn (es ++ e ∷ []) (begun_count (es ++ e ∷ []) + 1) ≡ lasts_by begun_txn es (begun_count es + 1) ++ (length es + 1) ∷ []
+  codes_more own = lasts_begun begun_txn (ap (λ b. if b then None else beginner e.event e.reply) is ∙ own)
 
   ends_begun : (n : ℕ) → ender e.event ≡ None → IsFit n es → lasts_by ended_txn (es ++ e ∷ []) (begun_count (es ++ e ∷ []) + 1) ≡ lasts_by ended_txn es (begun_count es + 1) ++ 0 ∷ []
   ends_begun n own fit = grind (arith, count, lasts_grow ended_txn (es ++ e ∷ []) (begun_count es + 1), lasts_none, last_same)
@@ -190,14 +198,36 @@ ends_after_entry n es (Write t x v) r is fit = ends_none es (record { event = Wr
 ends_after_entry n es (Commit t) r is fit = ends_known es (record { event = Commit t; reply = r }) is refl t.0 refl
 ends_after_entry n es (Abort t) r is fit = ends_known es (record { event = Abort t; reply = r }) is refl t.0 refl
 
-begins_after_entry : (es : List Entry) (ev : Event) (r : Reply) → is_refusal r ≡ false
-    → map begin_of (begin_records (accepted (es ++ record { event = ev; reply = r } ∷ []))) ≡ begins_after (map begin_of (begin_records (accepted es))) ev
-begins_after_entry es (BeginUpdate l) r is = begins_more es (record { event = BeginUpdate l; reply = r }) (record { query = false; strict = false; limit = l }) is refl
-begins_after_entry es (BeginQuery l s) r is = begins_more es (record { event = BeginQuery l s; reply = r }) (record { query = true; strict = s; limit = l }) is refl
-begins_after_entry es (Read t x) r is = begins_same es (record { event = Read t x; reply = r }) is refl
-begins_after_entry es (Write t x v) r is = begins_same es (record { event = Write t x v; reply = r }) is refl
-begins_after_entry es (Commit t) r is = begins_same es (record { event = Commit t; reply = r }) is refl
-begins_after_entry es (Abort t) r is = begins_same es (record { event = Abort t; reply = r }) is refl
+-- the table of begins after an accepted entry
+module _ (es : List Entry) (rows : List Begin) (are : map record_in rows ≡ begin_records (accepted es)) where
+  begun : (ev : Event) (r : Reply) → is_refusal r ≡ false → (row : Begin) → begin_record_of ev ≡ Some (record_in row) → map record_in (rows ++ row ∷ []) ≡ begin_records (accepted (es ++ record { event = ev; reply = r } ∷ []))
+  begun ev r is row some = map-append record_in rows (row ∷ []) ∙ (ap (λ bs. bs ++ record_in row ∷ []) are ∙ sym (begins_more es (record { event = ev; reply = r }) (record_in row) is some))
+
+  begins_after_entry : (ev : Event) (r : Reply) (code : ℕ) → is_refusal r ≡ false
+      → map record_in (begins_after rows ev code) ≡ begin_records (accepted (es ++ record { event = ev; reply = r } ∷ []))
+  begins_after_entry (BeginUpdate l) r code is = begun (BeginUpdate l) r is (record { kind = Update; strict = false; code = code; limit = l }) refl
+  begins_after_entry (BeginQuery l s) r code is = begun (BeginQuery l s) r is (record { kind = Query; strict = s; code = code; limit = l }) refl
+  begins_after_entry (Read t x) r code is = are ∙ sym (begins_same es (record { event = Read t x; reply = r }) is refl)
+  begins_after_entry (Write t x v) r code is = are ∙ sym (begins_same es (record { event = Write t x v; reply = r }) is refl)
+  begins_after_entry (Commit t) r code is = are ∙ sym (begins_same es (record { event = Commit t; reply = r }) is refl)
+  begins_after_entry (Abort t) r code is = are ∙ sym (begins_same es (record { event = Abort t; reply = r }) is refl)
+
+module _ (es : List Entry) (rows : List Begin) (are : 0 ∷ map (λ (b : Begin). b.code) rows ≡ lasts_by begun_txn es (begun_count es + 1)) where
+  code_begun : (ev : Event) (r : Reply) → is_refusal r ≡ false → (row : Begin) → begin_record_of ev ≡ Some (record_in row) → row.code ≡ length es + 1 → beginner ev r ≡ Some (begun_count es + 1)
+      → 0 ∷ map (λ (b : Begin). b.code) (rows ++ row ∷ []) ≡ lasts_by begun_txn (es ++ record { event = ev; reply = r } ∷ []) (begun_count (es ++ record { event = ev; reply = r } ∷ []) + 1)
+  code_begun ev r is row some here own =
+      ap (λ l. 0 ∷ l) (map-append (λ (b : Begin). b.code) rows (row ∷ []))
+      ∙ (ap (λ l. l ++ row.code ∷ []) are
+      ∙ (ap (λ c. lasts_by begun_txn es (begun_count es + 1) ++ c ∷ []) here ∙ sym (codes_more es (record { event = ev; reply = r }) is (record_in row) some own)))
+
+  codes_after_entry : (ev : Event) (r : Reply) → is_refusal r ≡ false → IsNumbered es ev r
+      → 0 ∷ map (λ (b : Begin). b.code) (begins_after rows ev (length es + 1)) ≡ lasts_by begun_txn (es ++ record { event = ev; reply = r } ∷ []) (begun_count (es ++ record { event = ev; reply = r } ∷ []) + 1)
+  codes_after_entry (BeginUpdate l) r is num = code_begun (BeginUpdate l) r is (record { kind = Update; strict = false; code = length es + 1; limit = l }) refl refl (num is)
+  codes_after_entry (BeginQuery l s) r is num = code_begun (BeginQuery l s) r is (record { kind = Query; strict = s; code = length es + 1; limit = l }) refl refl (num is)
+  codes_after_entry (Read t x) r is num = are ∙ sym (codes_same es (record { event = Read t x; reply = r }) is refl refl)
+  codes_after_entry (Write t x v) r is num = are ∙ sym (codes_same es (record { event = Write t x v; reply = r }) is refl refl)
+  codes_after_entry (Commit t) r is num = are ∙ sym (codes_same es (record { event = Commit t; reply = r }) is refl refl)
+  codes_after_entry (Abort t) r is num = are ∙ sym (codes_same es (record { event = Abort t; reply = r }) is refl refl)
 
 -- the links of an entry, from the tables before it
 module _ (n : ℕ) (es : List Entry) (l : BackLinks) (are : AreLinks n es l) (fit : IsFit n es) (e : Entry) where
@@ -219,33 +249,56 @@ module _ (n : ℕ) (es : List Entry) (l : BackLinks) (are : AreLinks n es l) (fi
       grind (arith, on_item_more, of_txn_more, lasts_none, count_refused es e is, map, accepted_refused es e is)
 
   pub accepted_more : (m : BackLinks) (code : ℕ) → is_refusal e.reply ≡ false → IsNumbered es e.event e.reply → code ≡ length es + 1 → m.on_item.items ≡ l.on_item.items ++ key_at l.items.items (item_in e) ∷ [] → m.of_txn.items ≡ l.of_txn.items ++ key_at l.txns.items (txn_in e) ∷ []
-      → m.items.items ≡ with_key l.items.items (item_of e.event) code → m.txns.items ≡ txns_after l.txns.items e.event code → m.ends.items ≡ ends_after l.ends.items e.event code → m.begins.items ≡ begins_after l.begins.items e.event → AreLinks n (es ++ e ∷ []) m
+      → m.items.items ≡ with_key l.items.items (item_of e.event) code → m.txns.items ≡ txns_after l.txns.items e.event code → m.ends.items ≡ ends_after l.ends.items e.event code → m.begins.items ≡ begins_after l.begins.items e.event code → AreLinks n (es ++ e ∷ []) m
   accepted_more m code is num at a b c d f g = record {
     on_item = a ∙ on_item_more;
     of_txn = b ∙ of_txn_more;
     items = c ∙ (ap (λ t. with_key t (item_of e.event) code) are.items ∙ (ap (with_key (lasts_by accepted_item es n) (item_of e.event)) at ∙ sym (items_after es e n is)));
     txns = d ∙ (ap (λ t. txns_after t e.event code) are.txns ∙ (ap (txns_after (lasts_by accepted_txn es (begun_count es + 1)) e.event) at ∙ sym (txns_after_entry es e.event e.reply is num)));
     ends = f ∙ (ap (λ t. ends_after t e.event code) are.ends ∙ (ap (ends_after (lasts_by ended_txn es (begun_count es + 1)) e.event) at ∙ sym (ends_after_entry n es e.event e.reply is fit)));
-    begins = g ∙ (ap (λ t. begins_after t e.event) are.begins ∙ sym (begins_after_entry es e.event e.reply is));
+    begins = ap (map record_in) g ∙ begins_after_entry es l.begins.items are.begins e.event e.reply code is;
+    begin_codes =
+        ap (λ rows. 0 ∷ map (λ (b : Begin). b.code) rows) (g ∙ ap (begins_after l.begins.items e.event) at)
+        ∙ codes_after_entry es l.begins.items are.begin_codes e.event e.reply is num;
   }
 
 -- the facts of a transaction that has begun
-found : (bs : List BeginRecord) (k : ℕ) (b : Begin) (end : Option ℕ) → k < length bs → b ≡ get_or (map begin_of bs) k b → Some (record { query = is_query_kind b.kind; limit = b.limit; end = end }) ≡ facts_by (slice_get bs k) end
-found [] k b end l is = absurd (omega arith)
-found (c ∷ bs) zero b end l is =
-    ap (λ (b : Begin). let f : Facts = record { query = is_query_kind b.kind; limit = b.limit; end = end } in Some f) is
-    ∙ ap (λ (q : Bool). let f : Facts = record { query = q; limit = c.limit; end = end } in Some f) (query_kind c.query)
-found (c ∷ bs) (suc k) b end l is = found bs k b end (omega arith) is
+found : (rows : List Begin) (k : ℕ) (b : Begin) (begin : ℕ) (end : Option ℕ) → k < length rows → b ≡ get_or rows k b
+    → Some (record { query = is_query_kind b.kind; strict = b.strict; limit = b.limit; begin = begin; end = end }) ≡ facts_by (slice_get (map record_in rows) k) begin end
+found [] k b begin end l is = absurd (omega arith)
+found (c ∷ rows) zero b begin end l is =
+    ap (λ (b : Begin). let f : Facts = record { query = is_query_kind b.kind; strict = b.strict; limit = b.limit; begin = begin; end = end } in Some f) is
+found (c ∷ rows) (suc k) b begin end l is = found rows k b begin end (omega arith) is
 
-pub facts_are : (es : List Entry) (t : ℕ) (begins : List Begin) (b : Begin) (end : Option ℕ) → begins ≡ map begin_of (begin_records (accepted es)) → (t ≡ 0 → ⊥) → t - 1 < length begins → b ≡ get_or begins (t - 1) b → end ≡ last_place ended_txn t es
-    → Some (record { query = is_query_kind b.kind; limit = b.limit; end = end }) ≡ facts_of es t
-facts_are es zero begins b end are some l is at = absurd (some refl)
-facts_are es (suc k) begins b end are some l is at =
-    let e : suc k - 1 ≡ k = omega arith in
-    let len : length (map begin_of (begin_records (accepted es))) ≡ length (begin_records (accepted es)) = length-map (begin_records (accepted es)) begin_of in
-    let inside : k < length (begin_records (accepted es)) = omega (arith, l, ap length are, len, e) in
-    found (begin_records (accepted es)) k b end inside (is ∙ (ap (λ m. get_or begins m b) e ∙ ap (λ l. get_or l k b) are))
-    ∙ ap (facts_by (slice_get (begin_records (accepted es)) k)) at
+code_at : (rows : List Begin) (k : ℕ) (b : Begin) → k < length rows → b ≡ get_or rows k b → b.code ≡ slice_index_or (map (λ (b : Begin). b.code) rows) k 0
+code_at [] k b l is = absurd (omega arith)
+code_at (c ∷ rows) zero b l is = ap (λ (b : Begin). b.code) is
+code_at (c ∷ rows) (suc k) b l is = code_at rows k b (omega arith) is
+
+module _ (n : ℕ) (es : List Entry) (l : BackLinks) (are : AreLinks n es l) where
+  -- the index of the begin, from the table
+  begin_at : (k : ℕ) (b : Begin) → k < length l.begins.items → b ≡ get_or l.begins.items k b → unwrap_or (decoded b.code) 0 ≡ begin_place (suc k) es
+  begin_at k b inside is =
+      let len : length l.begins.items ≡ begun_count es = sym (length-map l.begins.items record_in) ∙ ap length are.begins in
+      let z : 0 + suc k ≡ suc k = omega arith in
+      ap (λ c. unwrap_or (decoded c) 0)
+      (code_at l.begins.items k b inside is
+      ∙ (ap (λ codes. slice_index_or codes (suc k) 0) are.begin_codes
+      ∙ (mapped_get (λ t. coded (last_place begun_txn t es)) 0 (begun_count es + 1) (suc k) (omega (arith, inside, len))
+      ∙ ap (λ t. coded (last_place begun_txn t es)) z)))
+      ∙ ap (λ o. unwrap_or o 0) (decoded_coded (last_place begun_txn (suc k) es))
+
+  pub facts_are : (t : ℕ) (rows : List Begin) (b : Begin) (begin : ℕ) (end : Option ℕ) → rows ≡ l.begins.items → (t ≡ 0 → ⊥) → t - 1 < length rows → b ≡ get_or rows (t - 1) b → begin ≡ unwrap_or (decoded b.code) 0 → end ≡ last_place ended_txn t es
+      → Some (record { query = is_query_kind b.kind; strict = b.strict; limit = b.limit; begin = begin; end = end }) ≡ facts_of es t
+  facts_are zero rows b begin end same some inside is first at = absurd (some refl)
+  facts_are (suc k) rows b begin end same some inside is first at =
+      let e : suc k - 1 ≡ k = omega arith in
+      let low : k < length l.begins.items = omega (arith, inside, e, ap length same) in
+      let here : b ≡ get_or l.begins.items k b = is ∙ (ap (λ m. get_or rows m b) e ∙ ap (λ rs. get_or rs k b) same) in
+      found l.begins.items k b begin end low here
+      ∙ (ap (λ bs. facts_by (slice_get bs k) begin end) are.begins
+      ∙ (ap (λ p. facts_by (slice_get (begin_records (accepted es)) k) p end) (first ∙ begin_at k b low here)
+      ∙ ap (facts_by (slice_get (begin_records (accepted es)) k) (begin_place (suc k) es)) at))
 
 pub lasts_length : (key : Entry → Option ℕ) (es : List Entry) (n : ℕ) → length (lasts_by key es n) ≡ n
 lasts_length key es n = at 0 n

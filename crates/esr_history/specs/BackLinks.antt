@@ -1,10 +1,10 @@
 -- The indices of earlier entries of a log, as a scan of it finds them.
-use Rattle.std.specs.Prelude.{◌≡◌, ℕ, zero, suc, ◌+◌, ◌^◌, ◌<◌, ◌≤◌, Bool, false, ◌==◌, List, [], ◌∷◌, ◌++◌, Option, None, Some, map, take, slice_get, slice_index_or, slice_set, length, ⊤, vec_capacity, if◌then◌else◌, option_map}
+use Rattle.std.specs.Prelude.{◌≡◌, ℕ, zero, suc, ◌+◌, ◌^◌, ◌<◌, ◌≤◌, Bool, false, ◌==◌, List, [], ◌∷◌, ◌++◌, Option, None, Some, map, take, slice_get, slice_index_or, slice_set, length, ⊤, vec_capacity, if◌then◌else◌, option_map, unwrap_or}
 use Rattle.std.specs.List.{last_or, range_with_len}
 pub use Rattle.esr_history.specs.declared.back_links.Facts.{Facts}
 use Rattle.esr_history.specs.declared.back_links.Begin.{Begin}
 use Rattle.esr_history.specs.declared.back_links.BackLinks.{BackLinks}
-use Rattle.esr_history.specs.Events.{BeginRecord, Update, Query, kind_of, is_refusal, accepted, begin_records, begin_record, Event, BeginUpdate, BeginQuery, Read, Write, Commit, Abort, Reply, Begun, Entry}
+use Rattle.esr_history.specs.Events.{BeginRecord, Update, Query, is_query_kind, is_refusal, accepted, begin_records, begin_record, Event, BeginUpdate, BeginQuery, Read, Write, Commit, Abort, Reply, Begun, Entry}
 
 -- the item that an event is on
 abbrev pub item_of : Event → Option ℕ
@@ -25,6 +25,12 @@ txn_of (Write t x v) r = Some t.0
 txn_of (Commit t) r = Some t.0
 txn_of (Abort t) r = Some t.0
 
+-- the transaction that an event with this reply begins
+abbrev pub beginner : Event → Reply → Option ℕ
+beginner (BeginUpdate limit) r = begun_by r
+beginner (BeginQuery limit strict) r = begun_by r
+beginner _ r = None
+
 -- the transaction that an event ends
 abbrev pub ender : Event → Option ℕ
 ender (Commit t) = Some t.0
@@ -37,12 +43,16 @@ item_in e = item_of e.event
 abbrev pub txn_in : Entry → Option ℕ
 txn_in e = txn_of e.event e.reply
 
--- the item of an accepted operation, the transaction of an accepted entry, and the one that an accepted entry ends
+-- the item of an accepted operation, the transaction of an accepted entry, and the one that an accepted entry begins or
+-- ends
 abbrev pub accepted_item : Entry → Option ℕ
 accepted_item e = if is_refusal e.reply then None else item_in e
 
 abbrev pub accepted_txn : Entry → Option ℕ
 accepted_txn e = if is_refusal e.reply then None else txn_in e
+
+abbrev pub begun_txn : Entry → Option ℕ
+begun_txn e = if is_refusal e.reply then None else beginner e.event e.reply
 
 abbrev pub ended_txn : Entry → Option ℕ
 ended_txn e = if is_refusal e.reply then None else ender e.event
@@ -73,13 +83,18 @@ earlier_at key (Some own) es = last_of_key key own es
 abbrev pub earlier : (Entry → Option ℕ) → (Entry → Option ℕ) → List Entry → ℕ → Option ℕ
 earlier key own es i = earlier_at key (option_map own (slice_get es i)) (take i es)
 
--- how a transaction began and where it ended
-abbrev pub facts_by : Option BeginRecord → Option ℕ → Option Facts
-facts_by None end = None
-facts_by (Some b) end = Some (record { query = b.query; limit = b.limit; end = end })
+-- the index of the entry that begins a transaction
+abbrev pub begin_place : ℕ → List Entry → ℕ
+begin_place t es = unwrap_or (last_place begun_txn t es) 0
+
+-- how and where a transaction began, and where it ended
+abbrev pub facts_by : Option BeginRecord → ℕ → Option ℕ → Option Facts
+facts_by None begin end = None
+facts_by (Some b) begin end =
+    Some (record { query = b.query; strict = b.strict; limit = b.limit; begin = begin; end = end })
 
 abbrev pub facts_of : List Entry → ℕ → Option Facts
-facts_of es t = facts_by (begin_record (accepted es) t) (last_place ended_txn t es)
+facts_of es t = facts_by (begin_record (accepted es) t) (begin_place t es) (last_place ended_txn t es)
 
 -- Encodes an optional entry index in a table: 0 for none, else the index plus 1.
 abbrev pub coded : Option ℕ → ℕ
@@ -101,21 +116,23 @@ links_by key own es = map (λ i. coded (earlier key own es i)) (range_with_len 0
 abbrev pub lasts_by : (Entry → Option ℕ) → List Entry → ℕ → List ℕ
 lasts_by key es n = map (λ k. coded (last_place key k es)) (range_with_len 0 n)
 
-abbrev pub begin_of : BeginRecord → Begin
-begin_of b = record { kind = kind_of b.query; limit = b.limit }
+-- the record in a row of the table of begins
+abbrev pub record_in : Begin → BeginRecord
+record_in b = record { query = is_query_kind b.kind; strict = b.strict; limit = b.limit }
 
 -- how many transactions have begun
 abbrev pub begun_count : List Entry → ℕ
 begun_count es = length (begin_records (accepted es))
 
--- the tables are those of the entries, over n items
+-- the tables are those of the entries, over n items; the code before those of the begins is of no transaction
 pub record AreLinks (n : ℕ) (es : List Entry) (l : BackLinks) : Type 0 where
   pub on_item : l.on_item.items ≡ links_by accepted_item item_in es
   pub of_txn : l.of_txn.items ≡ links_by accepted_txn txn_in es
   pub items : l.items.items ≡ lasts_by accepted_item es n
   pub txns : l.txns.items ≡ lasts_by accepted_txn es (begun_count es + 1)
   pub ends : l.ends.items ≡ lasts_by ended_txn es (begun_count es + 1)
-  pub begins : l.begins.items ≡ map begin_of (begin_records (accepted es))
+  pub begins : map record_in l.begins.items ≡ begin_records (accepted es)
+  pub begin_codes : 0 ∷ map (λ b. b.code) l.begins.items ≡ lasts_by begun_txn es (begun_count es + 1)
 
 -- accepted entries are on items below n, and of transactions that have begun
 pub record IsFit (n : ℕ) (es : List Entry) : Type 0 where
@@ -158,10 +175,12 @@ ends_after table (Commit t) code = slice_set table t.0 code
 ends_after table (Abort t) code = slice_set table t.0 code
 ends_after table _ code = table
 
-abbrev pub begins_after : List Begin → Event → List Begin
-begins_after table (BeginUpdate limit) = table ++ record { kind = Update; limit = limit } ∷ []
-begins_after table (BeginQuery limit strict) = table ++ record { kind = Query; limit = limit } ∷ []
-begins_after table _ = table
+abbrev pub begins_after : List Begin → Event → ℕ → List Begin
+begins_after table (BeginUpdate limit) code =
+    table ++ record { kind = Update; strict = false; code = code; limit = limit } ∷ []
+begins_after table (BeginQuery limit strict) code =
+    table ++ record { kind = Query; strict = strict; code = code; limit = limit } ∷ []
+begins_after table _ code = table
 
 -- an accepted begin has the next number
 abbrev pub IsNumbered : List Entry → Event → Reply → Type 0

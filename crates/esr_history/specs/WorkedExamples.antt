@@ -1,9 +1,10 @@
 -- Worked examples: the machine's replies, charges and locks on some lists of events.
-use Rattle.std.specs.Prelude.{◌≡◌, ℕ, ℤ, pos, List, [], ◌∷◌, true, false, refl, map, Some}
+use Rattle.std.specs.Prelude.{◌≡◌, ℕ, ℤ, pos, List, [], ◌∷◌, true, false, refl, map, None, Some}
 use Rattle.esr_items.specs.Values.{gap}
 use Rattle.esr_history.specs.Events.{TxnId, ItemId, Event, BeginUpdate, BeginQuery, Read, Write, Commit, Abort, Reply, Begun, Value, Wrote, Committed, Aborted, Refused, NoSuchTransaction, AlreadyEnded, NoSuchItem, QueryMayNotWrite, ValueOutOfRange, LimitOutOfRange, BlockedByLock, BlockedByImport, BlockedByExport}
 use Rattle.esr_history.specs.Machine.{Schedule, DistanceFunction, schedule_of, extended, reply_to, charges_in, total, import_in, export_in, accepted_in}
 use Rattle.esr_history.specs.ItemLocks.{item_locks}
+use Rattle.esr_history.specs.BackLinks.{facts_of}
 
 abbrev pub plain : DistanceFunction
 plain w x a b = gap a b
@@ -138,6 +139,23 @@ export_limit_over_queries_imports = refl
 export_limit_over_queries_exports :
     map (export_in (charges_in plain export_limit_covers_all_queries)) (3 ∷ 4 ∷ []) ≡ 0 ∷ 15 ∷ []
 export_limit_over_queries_exports = refl
+
+-- how and where transactions begin and end: a refused begin begins none, and the first entry has index 0
+abbrev strict_query_after_refused_begin : Schedule
+strict_query_after_refused_begin =
+    played (started_from (pos 0 ∷ []))
+    (BeginUpdate 4 ∷ BeginUpdate 1000000000000000001 ∷ BeginQuery 9 true ∷ Read (txn 2) (item 0) ∷ Commit (txn 2) ∷ [])
+
+strict_query_after_refused_begin_update : facts_of strict_query_after_refused_begin.entries 1
+    ≡ Some (record { query = false; strict = false; limit = 4; begin = 0; end = None })
+strict_query_after_refused_begin_update = refl
+
+strict_query_after_refused_begin_query : facts_of strict_query_after_refused_begin.entries 2
+    ≡ Some (record { query = true; strict = true; limit = 9; begin = 2; end = Some 4 })
+strict_query_after_refused_begin_query = refl
+
+strict_query_after_refused_begin_none : facts_of strict_query_after_refused_begin.entries 3 ≡ None
+strict_query_after_refused_begin_none = refl
 
 -- whether a query is strict changes no reply to its begin
 strict_ignored : (h : Schedule) (limit : ℕ)

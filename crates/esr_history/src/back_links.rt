@@ -1,9 +1,9 @@
 //! Links each entry to earlier entries, of the same item and of the same transaction, each found in one step.
 //!
 //! The tables hold two entry indices for each entry, the last one for each item and transaction, and for each
-//! transaction how it began and where it ended. The type of `History` guarantees that a scan of the log would find the
-//! same. Because of them the cost of a step or an audit does not grow with unrelated entries. Links lead to accepted
-//! entries only.
+//! transaction how and where it began and where it ended. The type of `History` guarantees that a scan of the log would
+//! find the same. Because of them the cost of a step or an audit does not grow with unrelated entries. Links lead to
+//! accepted entries only.
 //!
 //! A table stores an index plus 1 in 32 bits, and 0 for none. So `reserve` fails for an entry past 4,294,967,294, as if
 //! an allocation failed; a machine's history is far shorter.
@@ -15,23 +15,29 @@ ghost use Rattle.esr_history.specs.BackLinks.{with_key, txns_after, ends_after, 
 use crate::event::{BeginKind, Entry, Event, Reply};
 use std::alloc::{AllocError, Global};
 
-/// How a transaction began, and the index of its accepted commit or abort.
+/// How a transaction began, the index of its accepted begin, and that of its accepted commit or abort.
 #[derive(Clone, Copy, PartialEq, Eq, Debug)]
 pub struct Facts {
     pub query: bool,
+    /// Whether it is a strict query.
+    pub strict: bool,
     pub limit: u64,
+    pub begin: u64,
     pub end: Option<u64>,
 }
 
+/// How a transaction began, and the code of the index of its begin, in 16 bytes.
 #[derive(Clone, Copy)]
 struct Begin {
     kind: BeginKind,
+    strict: bool,
+    code: u32,
     limit: u64,
 }
 
 /// For each entry the index of the previous accepted operation on the same item, and of the previous accepted entry of
-/// the same transaction; for each item and each transaction the last such index; and how each transaction began and
-/// where it ended. A table stores 0 for none, and each index plus 1.
+/// the same transaction; for each item and each transaction the last such index; and how and where each transaction
+/// began and where it ended. A table stores 0 for none, and each index plus 1.
 #[derive(Drop)]
 pub struct BackLinks {
     on_item: Vec<u32>,
@@ -65,25 +71,6 @@ fn begun_by(reply: Reply) -> Option<u32>
     match reply {
         Reply::Begun(t) => Some(t.0),
         _ => None,
-    }
-}
-
-fn txn_of(event: Event, reply: Reply) -> Option<u32>
-    ensures { result ≡ txn_of event reply }
-{
-    match event {
-        Event::BeginUpdate { limit: _ }
-        | Event::BeginQuery {
-            limit: _,
-            strict: _,
-        } => begun_by(reply),
-        Event::Read { txn, item: _ }
-        | Event::Write {
-            txn,
-            item: _,
-            value: _,
-        } => Some(txn.0),
-        Event::Commit { txn } | Event::Abort { txn } => Some(txn.0),
     }
 }
 
@@ -206,20 +193,19 @@ impl BackLinks {
 
     /// Notes an accepted begin.
     #[inline(always)]
-    fn add_begin(&mut self, kind: BeginKind, limit: u64, code: u32)
+    fn add_begin(&mut self, begin: Begin)
         requires { HasCapacityToBegin 1 self.old }
         ensures on_item { self.new.on_item ≡ self.old.on_item }
         ensures of_txn { self.new.of_txn ≡ self.old.of_txn }
         ensures items { self.new.items ≡ self.old.items }
-        ensures txns { self.new.txns.items ≡ self.old.txns.items ++ code ∷ [] }
+        ensures txns { self.new.txns.items ≡ self.old.txns.items ++ begin.code ∷ [] }
         ensures ends { self.new.ends.items ≡ self.old.ends.items ++ 0 ∷ [] }
-        ensures begins { self.new.begins.items ≡ self.old.begins.items ++ (record { kind = kind; limit = limit })
-            ∷ [] }
+        ensures begins { self.new.begins.items ≡ self.old.begins.items ++ begin ∷ [] }
         ensures spare_capacity { (k : ℕ) → HasCapacityToBegin (k + 1) self.old → HasCapacityToBegin k self.new }
     {
-        self.txns.push_reserved(code);
+        self.txns.push_reserved(begin.code);
         self.ends.push_reserved(0);
-        self.begins.push_reserved(Begin { kind, limit });
+        self.begins.push_reserved(begin);
     }
 
     /// Records an accepted event with the code of its index, and returns the codes of the entries that it links to.
@@ -234,13 +220,23 @@ impl BackLinks {
         ensures items { self.new.items.items ≡ with_key self.old.items.items (item_of event) code }
         ensures txns { self.new.txns.items ≡ txns_after self.old.txns.items event code }
         ensures ends { self.new.ends.items ≡ ends_after self.old.ends.items event code }
-        ensures begins { self.new.begins.items ≡ begins_after self.old.begins.items event }
+        ensures begins { self.new.begins.items ≡ begins_after self.old.begins.items event code }
         ensures spare_capacity { (k : ℕ) → HasCapacityToBegin (k + 1) self.old → HasCapacityToBegin k self.new }
     {
         let begun = at_key(&self.txns, begun_by(reply));
         match event {
-            Event::BeginUpdate { limit } => self.add_begin(BeginKind::Update, limit, code),
-            Event::BeginQuery { limit, strict: _ } => self.add_begin(BeginKind::Query, limit, code),
+            Event::BeginUpdate { limit } => self.add_begin(Begin {
+                kind: BeginKind::Update,
+                strict: false,
+                code,
+                limit,
+            }),
+            Event::BeginQuery { limit, strict } => self.add_begin(Begin {
+                kind: BeginKind::Query,
+                strict,
+                code,
+                limit,
+            }),
             Event::Read { txn, item }
             | Event::Write {
                 txn,
@@ -265,7 +261,7 @@ impl BackLinks {
     {
         (
             at_key(&self.items, item_of(entry.event)),
-            at_key(&self.txns, txn_of(entry.event, entry.reply)),
+            at_key(&self.txns, entry.txn().map(|t| t.0)),
         )
     }
 
@@ -342,7 +338,7 @@ impl BackLinks {
         self.begins.len()
     }
 
-    /// Returns how a transaction began and where it ended, if it has begun.
+    /// Returns how and where a transaction began and where it ended, if it has begun.
     pub fn facts(&self, t: u32) -> Option<Facts>
         ensures { (n : ℕ) (es : List Entry) → AreLinks n es self.now → IsFit n es → result ≡ facts_of es t }
     {
@@ -353,7 +349,9 @@ impl BackLinks {
             None => None,
             Some(begin) => Some(Facts {
                 query: begin.kind.is_query(),
+                strict: begin.strict,
                 limit: begin.limit,
+                begin: place(begin.code).unwrap_or(0),
                 end: place(at_key(&self.ends, Some(t))),
             }),
         }

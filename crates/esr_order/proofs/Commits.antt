@@ -3,7 +3,7 @@
 use Rattle.std.proofs.Common.{◌≡◌, ℕ, zero, suc, ◌+◌, ◌<◌, ◌≤◌, Bool, true, false, ◌==◌, List, [], ◌∷◌, ◌++◌, length, take, refl, sym, ◌∙◌, ap, subst, arith, inl, inr, ⊎_elim, Option, Some, None, Contains, filter, map, eqb, if◌then◌else◌, count_by, is_some, nat_lt, unwrap_or, option_map}
 use Rattle.std.specs.List.{filter_map, slice_get, list_any, before_first}
 use Rattle.std.specs.List.Sorted.{IsStrictlyIncreasing}
-use Rattle.std.proofs.lemmas.Bool.{true≢false, cases_Bool, cases_lt, cases_order, and_parts, eq-eqb, eqb-true, false_from_ne_true, or_left}
+use Rattle.std.proofs.lemmas.Bool.{true≢false, cases_Bool, cases_lt, cases_order, eq-eqb, eqb-true, false_from_ne_true, or_left}
 use Rattle.std.proofs.lemmas.Bool.Decides.{nat_tests}
 use Rattle.std.proofs.lemmas.Option.{same_Some}
 use Rattle.std.proofs.lemmas.List.{length-map}
@@ -13,11 +13,11 @@ use Rattle.esr_history.specs.declared.event.Event.{Event}
 use Rattle.esr_history.specs.declared.event.Event.TheVariants.{BeginUpdate, BeginQuery, Read, Write, Commit, Abort}
 use Rattle.esr_history.specs.declared.event.Entry.{Entry}
 use Rattle.esr_history.specs.declared.back_links.Facts.{Facts}
-use Rattle.esr_history.specs.Events.{BeginRecord, is_refusal, accepted, begin_record, begin_record_of, begin_records, is_begun, is_query, is_update, is_committed}
+use Rattle.esr_history.specs.Events.{BeginRecord, is_refusal, accepted, begin_record, begin_records, is_begun, is_query, is_update, is_committed}
 use Rattle.esr_history.specs.Machine.{DistanceFunction, Schedule, accepted_in, IsLegal}
 use Rattle.esr_history.specs.Operations.{committer, commit_order}
-use Rattle.esr_history.specs.Queries.{is_committed_query, updates_committed_before, must, is_strict, before_begin}
-use Rattle.esr_history.specs.BackLinks.{ender, ended_txn, is_some_eq, last_place, facts_by, facts_of}
+use Rattle.esr_history.specs.Queries.{updates_committed_before, must, is_strict, before_begin}
+use Rattle.esr_history.specs.BackLinks.{begin_place, ender, ended_txn, is_some_eq, last_place, facts_by, facts_of}
 use Rattle.esr_history.proofs.Membership.{In, In-from_any, In-Contains, Contains-In, In-of_filter, In-append_left, In-append_right, In-append_cases, filter_agree_in, any-from_number}
 use Rattle.esr_history.proofs.Bounded.{In-before_first, before_first-here, before_first-later}
 use Rattle.esr_history.proofs.WithinRanges.{legal_begins}
@@ -25,36 +25,48 @@ use Rattle.esr_history.proofs.TraceAgreement.{committed_among, trace}
 use Rattle.esr_history.proofs.LegalWellFormed.{begun_in_range}
 use Rattle.esr_history.proofs.Locking.{known}
 use Rattle.esr_history.proofs.TraceOfHistory.{legal_reached}
-use Rattle.esr_order.specs.Scans.{commit_by, commit_in, commits_in, is_commit_at, is_end_before, is_ended_before, has_ended_before, end_in, begins_strictly, AreEnds}
+use Rattle.esr_order.specs.Scans.{commit_by, commit_in, commits_in, is_commit_at, is_end_before, is_ended_before, has_ended_before, end_in, AreEnds}
 use Rattle.esr_order.proofs.Entries.{given_accepted, given_events, accepts}
 use Rattle.esr_order.proofs.Linked.{split_at, get_inside, get_take}
 use Rattle.esr_order.proofs.Lists.{given_in, in_given, in_at, at_in}
 use Rattle.esr_order.proofs.Sparse.{sparse_entries}
-use Rattle.esr_order.proofs.Spans.{end_is, IsBegunAt, begun_at}
+use Rattle.esr_order.proofs.Spans.{end_is}
 
 -- ---- facts
 module _ (es : List Entry) (t : ℕ) where
   pub facts_none : None ≡ facts_of es t → begin_record (accepted es) t ≡ None
   facts_none none = at (begin_record (accepted es) t) none
     where
-      at : (b : Option BeginRecord) → None ≡ facts_by b (last_place ended_txn t es) → b ≡ None
+      at : (b : Option BeginRecord) → None ≡ facts_by b (begin_place t es) (last_place ended_txn t es) → b ≡ None
       at None e = refl
       at (Some b) e = absurd (cc)
 
-  pub facts_some : (f : Facts) → Some f ≡ facts_of es t → (b : BeginRecord) × (begin_record (accepted es) t ≡ Some b) × (f.query ≡ b.query) × (f.end ≡ last_place ended_txn t es)
+  pub facts_some : (f : Facts) → Some f ≡ facts_of es t
+      → (b : BeginRecord) × (begin_record (accepted es) t ≡ Some b) × (f ≡ record { query = b.query; strict = b.strict; limit = b.limit; begin = begin_place t es; end = last_place ended_txn t es })
   facts_some f some = at (begin_record (accepted es) t) refl some
     where
-      at : (o : Option BeginRecord) → begin_record (accepted es) t ≡ o → Some f ≡ facts_by o (last_place ended_txn t es) → (b : BeginRecord) × (begin_record (accepted es) t ≡ Some b) × (f.query ≡ b.query) × (f.end ≡ last_place ended_txn t es)
+      at : (o : Option BeginRecord) → begin_record (accepted es) t ≡ o → Some f ≡ facts_by o (begin_place t es) (last_place ended_txn t es)
+          → (b : BeginRecord) × (begin_record (accepted es) t ≡ Some b) × (f ≡ record { query = b.query; strict = b.strict; limit = b.limit; begin = begin_place t es; end = last_place ended_txn t es })
       at None is e = absurd (cc)
-      at (Some b) is e =
-          let s : f ≡ record { query = b.query; limit = b.limit; end = last_place ended_txn t es } = same_Some f (record { query = b.query; limit = b.limit; end = last_place ended_txn t es }) e in
-          (b, is, ap (λ (g : Facts). g.query) s, ap (λ (g : Facts). g.end) s)
+      at (Some b) is e = (b, is, same_Some f (record { query = b.query; strict = b.strict; limit = b.limit; begin = begin_place t es; end = last_place ended_txn t es }) e)
 
   pub query_some : (f : Facts) → Some f ≡ facts_of es t → f.query ≡ is_query (accepted es) t
-  query_some f some = let s = facts_some f some in s.2 ∙ sym (ap (λ (b : Option BeginRecord). unwrap_or (option_map (λ c. c.query) b) false) s.1)
+  query_some f some = let s = facts_some f some in ap (λ (g : Facts). g.query) s.2 ∙ sym (ap (λ (b : Option BeginRecord). unwrap_or (option_map (λ c. c.query) b) false) s.1)
 
   pub end_some : (f : Facts) → Some f ≡ facts_of es t → f.end ≡ last_place ended_txn t es
-  end_some f some = (facts_some f some).3
+  end_some f some = ap (λ (g : Facts). g.end) (facts_some f some).2
+
+  pub strict_some : (f : Facts) → Some f ≡ facts_of es t → f.strict ≡ is_strict (accepted es) t
+  strict_some f some = let s = facts_some f some in ap (λ (g : Facts). g.strict) s.2 ∙ sym (ap (λ (b : Option BeginRecord). unwrap_or (option_map (λ c. c.strict) b) false) s.1)
+
+  pub strict_none : None ≡ facts_of es t → is_strict (accepted es) t ≡ false
+  strict_none none = ap (λ (b : Option BeginRecord). unwrap_or (option_map (λ c. c.strict) b) false) (facts_none none)
+
+  pub begin_some : (f : Facts) → Some f ≡ facts_of es t → f.begin ≡ begin_place t es
+  begin_some f some = ap (λ (g : Facts). g.begin) (facts_some f some).2
+
+  pub begun_some : (f : Facts) → Some f ≡ facts_of es t → is_begun (accepted es) t ≡ true
+  begun_some f some = ap is_some (facts_some f some).1
 
 -- ---- commits
 -- the list of committed transactions, by number
@@ -196,7 +208,7 @@ module _ (d : DistanceFunction) (h : Schedule) (legal : IsLegal d h) where
     where
       ended : (o : Option BeginRecord) → begin_record (accepted_in h) t ≡ o → is_some o ≡ true → has_ended_before h t place ≡ is_end_before (last_place ended_txn t h.entries) place
       ended None none begun = absurd (true≢false (sym begun))
-      ended (Some b) some begun = ap (λ o. is_ended_before (facts_by o (last_place ended_txn t h.entries)) place) some
+      ended (Some b) some begun = ap (λ o. is_ended_before (facts_by o (begin_place t h.entries) (last_place ended_txn t h.entries)) place) some
 
       nat_lt_true : (a b : ℕ) → a < b → nat_lt a b ≡ true
       nat_lt_true a b l = grind (arith, nat_tests)
@@ -244,32 +256,6 @@ updates_are h q committed are updates is =
           | inr away ↦ ap (map (λ (t : TxnId). t.0)) (before_first-later (λ (t : TxnId). t.0 == q) t ts away) ∙ (ap (λ l. t.0 ∷ l) (mapped_before ts) ∙ sym (before_first-later (λ t. t == q) t.0 (map (λ (t : TxnId). t.0) ts) away))
         ]
 
-pub query_begun : (h : Schedule) (q : ℕ) → is_committed_query h q ≡ true → is_begun (accepted_in h) q ≡ true
-query_begun h q is = at (begin_record (accepted_in h) q) (and_parts (is_query (accepted_in h) q) (is_committed (accepted_in h) q) is).0
-  where
-    at : (b : Option BeginRecord) → unwrap_or (option_map (λ c. c.query) b) false ≡ true → is_some b ≡ true
-    at None e = e
-    at (Some b) e = refl
-
--- ---- the begin of a transaction
-pub begin_place : (d : DistanceFunction) (h : Schedule) → IsLegal d h → (t : ℕ) → is_begun (accepted_in h) t ≡ true → (b : BeginRecord) × (begin_record (accepted_in h) t ≡ Some b) × ((p : ℕ) × IsBegunAt h.entries t b p)
-begin_place d h legal t begun = at (begin_record (accepted_in h) t) refl begun
-  where
-    at : (o : Option BeginRecord) → begin_record (accepted_in h) t ≡ o → is_some o ≡ true → (b : BeginRecord) × (begin_record (accepted_in h) t ≡ Some b) × ((p : ℕ) × IsBegunAt h.entries t b p)
-    at None is e = absurd (true≢false (sym e))
-    at (Some b) is e = (b, is, begun_at d h legal t b is)
-
-pub strict_is : (es : List Entry) (t : ℕ) (b : BeginRecord) → begin_record (accepted es) t ≡ Some b → (e : Entry) → begin_record_of e.event ≡ Some b → begins_strictly e.event ≡ is_strict (accepted es) t
-strict_is es t b is e event = at e.event event ∙ sym (ap (λ (o : Option BeginRecord). unwrap_or (option_map (λ c. c.strict) o) false) is)
-  where
-    at : (ev : Event) → begin_record_of ev ≡ Some b → begins_strictly ev ≡ b.strict
-    at (BeginUpdate l) f = ap (λ (c : BeginRecord). c.strict) (same_Some (record { query = false; strict = false; limit = l }) b f)
-    at (BeginQuery l s) f = ap (λ (c : BeginRecord). c.strict) (same_Some (record { query = true; strict = s; limit = l }) b f)
-    at (Read u x) f = absurd (cc)
-    at (Write u x v) f = absurd (cc)
-    at (Commit u) f = absurd (cc)
-    at (Abort u) f = absurd (cc)
-
 -- ---- the ends, number by number
 pub record AreEndsBelow (es : List Entry) (t : ℕ) (ends : List ℕ) : Type 0 where
   pub all : (k p : ℕ) → 1 ≤ k → k < t → last_place ended_txn k es ≡ Some p → In p ends
@@ -297,8 +283,7 @@ ends_more es t ends more end is grown was = subst (AreEndsBelow es (t + 1)) (sym
 
 pub known_below : (d : DistanceFunction) (h : Schedule) → IsLegal d h → (t : ℕ) (f : Facts) → Some f ≡ facts_of h.entries t → (1 ≤ t) × (t ≤ 65535)
 known_below d h legal t f some =
-    let s = facts_some h.entries t f some in
-    let n = begun_in_range (accepted_in h) t (ap is_some s.1) in
+    let n = begun_in_range (accepted_in h) t (begun_some h.entries t f some) in
     let upper_bound : length (begin_records (accepted_in h)) ≤ 65535 = legal_begins d h legal in
     (n.0, omega (arith, n.1, upper_bound))
 

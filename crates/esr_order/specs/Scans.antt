@@ -2,7 +2,7 @@
 use Rattle.std.specs.Prelude.{◌≡◌, ℕ, List, [], ◌∷◌, Bool, true, false, ◌==◌, Option, None, Some, Contains, is_some, filter, map, nat_lt, slice_get, if◌then◌else◌, option_map}
 use Rattle.esr_base.specs.declared.numbers.TxnId.{TxnId}
 use Rattle.esr_history.specs.declared.event.Event.{Event}
-use Rattle.esr_history.specs.declared.event.Event.TheVariants.{BeginQuery, Commit}
+use Rattle.esr_history.specs.declared.event.Event.TheVariants.{Commit}
 use Rattle.esr_history.specs.declared.event.Entry.{Entry}
 use Rattle.esr_history.specs.Events.{is_refusal, is_begun}
 use Rattle.esr_history.specs.declared.back_links.Facts.{Facts}
@@ -52,15 +52,6 @@ is_ended_before (Some f) place = is_end_before f.end place
 
 abbrev pub has_ended_before : Schedule → ℕ → ℕ → Bool
 has_ended_before h t place = is_ended_before (facts_of h.entries t) place
-
--- whether an entry, if there is one, is the begin of a strict query
-abbrev pub begins_strictly : Event → Bool
-begins_strictly (BeginQuery limit strict) = strict
-begins_strictly _ = false
-
-abbrev pub is_strict_begin : Option Entry → Bool
-is_strict_begin None = false
-is_strict_begin (Some e) = begins_strictly e.event
 
 -- the access of an operation
 abbrev pub access_of : Operation → Access

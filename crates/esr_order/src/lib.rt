@@ -18,7 +18,6 @@ mod read_values;
 mod rows;
 mod scan;
 mod search;
-mod walk;
 
 pub use accesses::{Access, accesses_of};
 pub use index::Index;

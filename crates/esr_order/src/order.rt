@@ -138,7 +138,7 @@ fn relevant_with<M: Metric>(
         return Err(OrderError::NotACommittedQuery);
     }
     let updates = updates_before(alloc, history, committed, q)?;
-    let first = count_must(alloc, history, &updates, q)?;
+    let first = count_must(history, &updates, q);
     let relevant = relevant_of(alloc, history, rows, &updates, first, q)?;
     let order = among(
         alloc,
@@ -165,7 +165,7 @@ impl Order {
         }
         let committed = committed(alloc, history)?;
         let commits = updates_before(alloc, history, &committed, q)?;
-        let first = count_must(alloc, history, &commits, q)?;
+        let first = count_must(history, &commits, q);
         let rows = AccessRows::new(alloc);
         let order = among(alloc, history, &rows, commits, first, &[])?;
         Ok(order)

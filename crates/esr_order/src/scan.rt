@@ -1,16 +1,15 @@
 //! Finds transactions by a history's links: those that committed, those that committed before a query, and those that a
 //! strict query must have seen.
 
-ghost use Rattle.std.specs.Prelude.{◌≡◌, ◌++◌, ◌∷◌, ℕ, List, [], true, ◌==◌, IfOk, OnOk, OnErr, slice_get, length, map, filter, count_by, reverse, take};
+ghost use Rattle.std.specs.Prelude.{◌≡◌, ◌++◌, ◌∷◌, [], ◌==◌, IfOk, OnOk, OnErr, slice_get, length, map, filter, count_by};
 ghost use Rattle.std.specs.List.{filter_map, before_first};
 ghost use Rattle.std.specs.List.Sorted.{IsStrictlyIncreasing};
-ghost use Rattle.esr_history.specs.Events.{is_begun, is_update};
+ghost use Rattle.esr_history.specs.Events.{is_update};
 ghost use Rattle.esr_history.specs.Machine.{accepted_in};
 ghost use Rattle.esr_history.specs.Operations.{commit_order};
-ghost use Rattle.esr_history.specs.Queries.{before_begin, is_committed_query, is_strict, updates_committed_before, must};
-ghost use Rattle.esr_order.specs.Scans.{commit_in, is_commit_at, is_strict_begin, has_ended_before, end_in, AreEnds};
+ghost use Rattle.esr_history.specs.Queries.{is_committed_query, updates_committed_before, must};
+ghost use Rattle.esr_order.specs.Scans.{commit_in, is_commit_at, has_ended_before, end_in, AreEnds};
 
-use crate::walk::places_of_txn;
 use esr_history::{Entry, Event, History, Log, TxnId};
 use esr_items::Metric;
 use std::alloc::{AllocError, Global};
@@ -134,56 +133,6 @@ pub fn updates_before<M: Metric>(
         .collect(alloc)
 }
 
-/// The index at which a transaction began, and whether as a strict query.
-#[derive(Clone, Copy)]
-struct BeginPlace {
-    place: u64,
-    strict: bool,
-}
-
-/// Returns whether an entry, if there is one, is the begin of a strict query.
-fn is_strict_begin(entry: Option<Entry>) -> bool
-    ensures { result ≡ is_strict_begin entry }
-{
-    match entry {
-        Some(
-            Entry {
-                event: Event::BeginQuery { limit: _, strict },
-                reply: _,
-            },
-        ) => strict,
-        _ => false,
-    }
-}
-
-/// Returns the first of the indices that a backward walk found.
-fn first_of(places: &[u64]) -> u64
-    ensures { (p : ℕ) (rest : List ℕ) → reverse places.now ≡ p ∷ rest → result ≡ p }
-{
-    match places.last() {
-        None => 0,
-        Some(place) => *place,
-    }
-}
-
-/// Returns the begin of a transaction that has begun.
-fn begin_place<M: Metric>(
-    alloc: Global,
-    history: &History<M>,
-    t: TxnId,
-) -> Result<BeginPlace, AllocError>
-    requires { is_begun (accepted_in history.now.schedule) t.0 ≡ true }
-    ensures place { IfOk result (λ b. take b.place history.now.schedule.entries
-        ≡ before_begin history.now.schedule t.0) }
-    ensures strict { IfOk result (λ b. b.strict ≡ is_strict (accepted_in history.now.schedule) t.0) }
-{
-    let places = places_of_txn(alloc, history, t)?;
-    let log = history.log();
-    let place = first_of(&places);
-    let strict = is_strict_begin(log.get(place as usize));
-    Ok(BeginPlace { place, strict })
-}
-
 /// Returns whether the transaction ended before an index.
 fn has_ended_before<M: Metric>(history: &History<M>, t: TxnId, place: u64) -> bool
     ensures { result ≡ has_ended_before history.now.schedule t.0 place }
@@ -204,21 +153,17 @@ fn count_before<M: Metric>(history: &History<M>, txns: &[TxnId], place: u64) -> 
 }
 
 /// Returns how many of its updates a query must have seen.
-pub fn count_must<M: Metric>(
-    alloc: Global,
-    history: &History<M>,
-    updates: &[TxnId],
-    q: TxnId,
-) -> Result<usize, AllocError>
-    requires begun { is_begun (accepted_in history.now.schedule) q.0 ≡ true }
-    requires updates { map (λ t. t.0) updates.now ≡ updates_committed_before history.now.schedule q.0 }
-    ensures { IfOk result (λ n. n ≡ length (must history.now.schedule q.0)) }
+pub fn count_must<M: Metric>(history: &History<M>, updates: &[TxnId], q: TxnId) -> usize
+    requires { map (λ t. t.0) updates.now ≡ updates_committed_before history.now.schedule q.0 }
+    ensures { result ≡ length (must history.now.schedule q.0) }
 {
     let _invariant = history.log(); // brings the invariant into the proof
-    let begin = begin_place(alloc, history, q)?;
-    if begin.strict {
-        Ok(count_before(history, updates, begin.place))
+    let Some(facts) = history.facts(q) else {
+        return 0;
+    };
+    if facts.strict {
+        count_before(history, updates, facts.begin)
     } else {
-        Ok(0)
+        0
     }
 }

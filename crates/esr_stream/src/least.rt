@@ -175,20 +175,6 @@ fn find_from<M: Metric>(
     least_from(alloc, query, len, &states, worth, marks)
 }
 
-/// Returns the index at which a transaction began. No contract constrains it.
-fn begin_of<M: Metric>(history: &History<M>, q: TxnId) -> u64 {
-    let mut begin = 0;
-    let mut next = history.last_of_txn(q);
-    for _ in 0..history.log().len() {
-        let Some(i) = next else {
-            return begin;
-        };
-        begin = i;
-        next = history.earlier_of_txn(i);
-    }
-    begin
-}
-
 /// Returns whether a transaction ended before an index. No contract constrains it.
 fn has_ended<M: Metric>(history: &History<M>, t: TxnId, place: u64) -> bool {
     match history.facts(t) {
@@ -205,9 +191,11 @@ fn checkpoint_of<M: Metric>(query: &AuditedQuery<M>, first: usize) -> usize
     ensures high { result ≤ length (updates_of query.now) }
 {
     let updates = query.updates();
-    let begin = begin_of(query.history(), query.query());
+    let Some(facts) = query.history().facts(query.query()) else {
+        return first;
+    };
     for i in (first..updates.len()).rev() {
-        if has_ended(query.history(), updates[i], begin) {
+        if has_ended(query.history(), updates[i], facts.begin) {
             return i.saturating_sub(MARGIN).max(first);
         }
     }
@@ -277,7 +265,7 @@ fn find<M: Metric>(alloc: Global, query: &AuditedQuery<M>) -> Result<Option<Leas
         (map (λ t. t.0) l.before.items))) }
 {
     let _invariant = query.history(); // brings the invariant into the proof
-    let first = query.mandatory_count(alloc)?;
+    let first = query.mandatory_count();
     let proposed = propose_amounts(alloc, query, first)?;
     let begun = start(alloc, query, first, &proposed)?;
     let Some(start_states) = begun else {

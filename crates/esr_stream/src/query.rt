@@ -116,14 +116,10 @@ impl<'a, M: Metric> AuditedQuery<'a, M> {
     }
 
     /// Returns how many of these updates every closed set contains.
-    ///
-    /// # Errors
-    ///
-    /// An allocation failed.
-    pub fn mandatory_count(&self, alloc: Global) -> Result<usize, AllocError>
-        ensures { IfOk result (λ n. n ≡ length (must self.now.schedule self.now.query)) }
+    pub fn mandatory_count(&self) -> usize
+        ensures { result ≡ length (must self.now.schedule self.now.query) }
     {
-        count_must(alloc, self.history, &self.updates, self.query)
+        count_must(self.history, &self.updates, self.query)
     }
 
     /// Returns the reads and writes of the update at a position, in order. `list` is as in `Index::accesses_of`.

@@ -2,16 +2,13 @@ use Rattle.std.proofs.Common.{◌∙◌, map, sym, ap, subst}
 use Rattle.esr_base.specs.declared.numbers.TxnId.{TxnId}
 use Rattle.esr_order.specs.Relevant.{AreRelevant}
 use Rattle.esr_order.specs.Orders.{IsConflictOrderOn}
-use Rattle.esr_order.proofs.Commits.{updates_are, query_begun}
+use Rattle.esr_order.proofs.Commits.{updates_are}
 use Rattle.esr_order.proofs.RelevantFound.{IsRelevantRun, relevant_run}
 use Rattle.esr_order.proofs.order.relevant_with.Goals as goal
 use Rattle.esr_order.proofs.order.relevant_with.Goals.{After-deref-3}
 
-pub count_must-requires-clause-begun : goal.count_must-requires-clause-begun
-count_must-requires-clause-begun g c = query_begun c.args.history.now.schedule c.args.q.0 (sym c.is_committed_query.ensures ∙ c.if-not-is_committed_query.false)
-
-pub count_must-requires-clause-updates : goal.count_must-requires-clause-updates
-count_must-requires-clause-updates g c =
+pub count_must-first-requires : goal.count_must-first-requires
+count_must-first-requires g c =
     ap (map (λ t. t.0)) c.deref.ensures.value
     ∙ updates_are c.args.history.now.schedule c.args.q.0 c.args.committed.now c.requires.list c.in_ok-updates.updates.items c.in_ok-updates.ensures
 
@@ -20,8 +17,8 @@ relevant_of-requires-clause-updates g c =
     ap (map (λ t. t.0)) c.deref-2.ensures.value
     ∙ updates_are c.args.history.now.schedule c.args.q.0 c.args.committed.now c.requires.list c.in_ok-updates.updates.items c.in_ok-updates.ensures
 
-run : (g : Rattle.esr_order.proofs.order.relevant_with.Given.Over) (c : After-deref-3 g) → IsRelevantRun c.args.history.now.schedule c.args.q.0 c.in_ok-first.first c.in_ok-relevant.relevant.updates.items
-run g c = relevant_run g.M.Metric.distance_by c.args.history.now.schedule c.args.q.0 c.log-invariant.ensures.legal c.in_ok-relevant.relevant.updates.items c.in_ok-relevant.ensures.relevant c.in_ok-first.first c.in_ok-first.ensures
+run : (g : Rattle.esr_order.proofs.order.relevant_with.Given.Over) (c : After-deref-3 g) → IsRelevantRun c.args.history.now.schedule c.args.q.0 c.count_must-first.result c.in_ok-relevant.relevant.updates.items
+run g c = relevant_run g.M.Metric.distance_by c.args.history.now.schedule c.args.q.0 c.log-invariant.ensures.legal c.in_ok-relevant.relevant.updates.items c.in_ok-relevant.ensures.relevant c.count_must-first.result c.count_must-first.ensures
 
 pub among-requires-clause-once : goal.among-requires-clause-once
 among-requires-clause-once g c = (run g c).once
@@ -40,6 +37,6 @@ returns-clause-relevant g c = subst (λ ts. AreRelevant c.args.history.now.sched
 
 pub returns-clause-ok : goal.returns-clause-ok
 returns-clause-ok g c =
-    let r : IsRelevantRun c.args.history.now.schedule c.args.q.0 c.in_ok-first.first c.in_ok-relevant.relevant.updates.items =
-    relevant_run g.M.Metric.distance_by c.args.history.now.schedule c.args.q.0 c.log-invariant.ensures.legal c.in_ok-relevant.relevant.updates.items c.in_ok-relevant.ensures.relevant c.in_ok-first.first c.in_ok-first.ensures in
+    let r : IsRelevantRun c.args.history.now.schedule c.args.q.0 c.count_must-first.result c.in_ok-relevant.relevant.updates.items =
+    relevant_run g.M.Metric.distance_by c.args.history.now.schedule c.args.q.0 c.log-invariant.ensures.legal c.in_ok-relevant.relevant.updates.items c.in_ok-relevant.ensures.relevant c.count_must-first.result c.count_must-first.ensures in
     subst (λ ts. IsConflictOrderOn c.args.history.now.schedule c.args.q.0 (map (λ (t : TxnId). t.0) ts) c.in_ok-order.order) (sym c.in_ok-order.ensures.commits) (c.in_ok-order.ensures.order c.args.q.0 r.musts)

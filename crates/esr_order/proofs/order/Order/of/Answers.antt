@@ -11,7 +11,7 @@ use Rattle.esr_order.proofs.ConflictOrder.{in_order}
 use Rattle.esr_order.proofs.Early.{must_below, must_positions}
 use Rattle.esr_order.proofs.Complete.{order_whole}
 use Rattle.esr_order.proofs.Gathered.{commits_bounded, commits_length}
-use Rattle.esr_order.proofs.Commits.{updates_are, query_begun}
+use Rattle.esr_order.proofs.Commits.{updates_are}
 use Rattle.esr_order.proofs.order.Order.of.Given.{Over}
 use Rattle.esr_order.proofs.order.Order.of.Goals as goal
 
@@ -36,8 +36,8 @@ pub among-requires-clause-first : goal.among-requires-clause-first
 among-requires-clause-first g c =
     let h = c.args.history.now.schedule in
     let d = g.M.Metric.distance_by in
-    subst (λ n. c.in_ok-first.first ≤ n) (sym (commits_length d h c.args.q.0 c.log-invariant.ensures.legal c.in_ok-commits.commits.items (same g c)))
-    (subst (λ n. n ≤ length (updates_committed_before h c.args.q.0)) (sym c.in_ok-first.ensures) (must_below d h c.args.q.0 c.log-invariant.ensures.legal))
+    subst (λ n. c.count_must-first.result ≤ n) (sym (commits_length d h c.args.q.0 c.log-invariant.ensures.legal c.in_ok-commits.commits.items (same g c)))
+    (subst (λ n. n ≤ length (updates_committed_before h c.args.q.0)) (sym c.count_must-first.ensures) (must_below d h c.args.q.0 c.log-invariant.ensures.legal))
 
 pub returns-clause-ok : goal.returns-clause-ok
 returns-clause-ok g c =
@@ -46,15 +46,12 @@ returns-clause-ok g c =
     let same : map (λ t. t.0) c.in_ok-commits.commits.items ≡ updates_committed_before h q = updates_are h q c.deref.result.now (ap (map (λ t. t.0)) c.deref.ensures.value ∙ c.in_ok-committed.ensures) c.in_ok-commits.commits.items c.in_ok-commits.ensures in
     order_whole h q c.in_ok-order.order
     (subst (λ us. IsConflictOrderOn h q us c.in_ok-order.order) same
-    (c.in_ok-order.ensures.order q (ap (λ us. map (nth us) (range_with_len 0 c.in_ok-first.first)) same ∙ must_positions g.M.Metric.distance_by h q c.log-invariant.ensures.legal c.in_ok-first.first c.in_ok-first.ensures)))
+    (c.in_ok-order.ensures.order q (ap (λ us. map (nth us) (range_with_len 0 c.count_must-first.result)) same ∙ must_positions g.M.Metric.distance_by h q c.log-invariant.ensures.legal c.count_must-first.result c.count_must-first.ensures)))
 
 pub returns-clause-sparse : goal.returns-clause-sparse
 returns-clause-sparse g c =
     let same : map (λ t. t.0) c.in_ok-commits.commits.items ≡ updates_committed_before c.args.history.now.schedule c.args.q.0 = updates_are c.args.history.now.schedule c.args.q.0 c.deref.result.now (ap (map (λ t. t.0)) c.deref.ensures.value ∙ c.in_ok-committed.ensures) c.in_ok-commits.commits.items c.in_ok-commits.ensures in
     subst (λ us. length c.in_ok-order.order.before ≤ 2 * length (filter (λ p. is_among us p.txn) (operations c.args.history.now.schedule))) same c.in_ok-order.ensures.sparse
 
-pub count_must-requires-clause-begun : goal.count_must-requires-clause-begun
-count_must-requires-clause-begun g c = query_begun c.args.history.now.schedule c.args.q.0 (sym c.is_committed_query.ensures ∙ c.if-not-is_committed_query.false)
-
-pub count_must-requires-clause-updates : goal.count_must-requires-clause-updates
-count_must-requires-clause-updates g c = ap (map (λ t. t.0)) c.deref-2.ensures.value ∙ updates_are c.args.history.now.schedule c.args.q.0 c.deref.result.now (ap (map (λ t. t.0)) c.deref.ensures.value ∙ c.in_ok-committed.ensures) c.in_ok-commits.commits.items c.in_ok-commits.ensures
+pub count_must-first-requires : goal.count_must-first-requires
+count_must-first-requires g c = ap (map (λ t. t.0)) c.deref-2.ensures.value ∙ updates_are c.args.history.now.schedule c.args.q.0 c.deref.result.now (ap (map (λ t. t.0)) c.deref.ensures.value ∙ c.in_ok-committed.ensures) c.in_ok-commits.commits.items c.in_ok-commits.ensures
