@@ -21,7 +21,7 @@ use Rattle.esr_order.proofs.Accessed.{reads_are}
 use Rattle.esr_order.proofs.QueryReads.{reads_counted, reads_in_range}
 use Rattle.esr_bound.specs.Amounts.{total, cost_by}
 use Rattle.esr_bound.proofs.LowerBound.{range_in}
-use Rattle.esr_stream.specs.Reads.{values_of, list_at, distance_sum, raised, AreReadsInRange}
+use Rattle.esr_stream.specs.Reads.{values_of, list_at, distance_sum, offset_cost, AreReadsInRange}
 
 abbrev on_item : ℕ → Access → Bool
 on_item x a = eqb a.item.0 x
@@ -119,7 +119,7 @@ module _ (d : DistanceFunction) (h : Schedule) (q : ℕ) (opened : All IsValue h
   range : IsWithinRanges h
   range = legal_within_ranges d h opened legal
 
-  pub costs_are : (S : ℕ → Bool) → cost_by (length h.opening) (raised (value_distance d h) values_read) h q S ≡ length h.opening * 17592186044416 + cost d h q S
+  pub costs_are : (S : ℕ → Bool) → cost_by (length h.opening) (offset_cost (value_distance d h) values_read) h q S ≡ length h.opening * 17592186044416 + cost d h q S
   costs_are S =
       let w : ℕ → ℤ = state h (members h q S) in
       let n : ℕ = length h.opening in

@@ -4,7 +4,7 @@ use Rattle.std.specs.declared.alloc.Global.{Global}
 use Rattle.esr_history.specs.Machine.{DistanceFunction, Schedule}
 use Rattle.esr_history.specs.Queries.{updates_committed_before}
 use Rattle.esr_order.specs.Scans.{accesses_in}
-use Rattle.esr_stream.specs.Reads.{AreReadsInRange, list_at, raised, values_of}
+use Rattle.esr_stream.specs.Reads.{AreReadsInRange, list_at, offset_cost, values_of}
 
 -- the history, the query, and the values that it read, by item
 pub record QueryView : Type 0 where
@@ -18,7 +18,7 @@ updates_of a = updates_committed_before a.schedule a.query
 
 -- the cost of a version of an item, plus the offset
 abbrev pub cost_in : DistanceFunction → QueryView → ℕ → ℤ → ℕ
-cost_in d a = raised (d a.schedule.weights) a.values_read
+cost_in d a = offset_cost (d a.schedule.weights) a.values_read
 
 -- these are the values that q read, by item
 pub record AreValuesRead (h : Schedule) (q : ℕ) (values_read : List (Vec ℤ Global)) : Type 0 where

@@ -12,8 +12,8 @@ abbrev pub values_of : List Access → ℕ → List ℤ
 values_of row x = map (λ a. a.value) (filter (λ a. not a.writes && (a.item.0 == x)) row)
 
 -- the cost of version v of item x if these are the values read, plus the offset
-abbrev pub raised : (ℕ → ℤ → ℤ → ℕ) → List (Vec ℤ Global) → ℕ → ℤ → ℕ
-raised D values_read x v = distance_sum D x (list_at values_read x) v + OFFSET
+abbrev pub offset_cost : (ℕ → ℤ → ℤ → ℕ) → List (Vec ℤ Global) → ℕ → ℤ → ℕ
+offset_cost D values_read x v = distance_sum D x (list_at values_read x) v + OFFSET
 
 -- a query can have read these values: each item's are not too many and in range
 pub record AreReadsInRange (values_read : List (Vec ℤ Global)) : Type 0 where

@@ -143,6 +143,19 @@ pub fn to_u16_or_nobody(i: usize) -> u16 {
     u16::try_from(i).unwrap_or(NOBODY)
 }
 
+/// Returns the elements of an update in a list, given the index of the first element of each update and the end of the last
+/// update's elements.
+pub fn elements_of<'a, T>(list: &'a [T], starts: &[u32], update: u16) -> &'a [T] {
+    let next = (update as usize).saturating_add(1);
+    let first = starts.get(update as usize).copied().unwrap_or(NONE) as usize;
+    let end = starts.get(next).copied().unwrap_or(NONE) as usize;
+    if first <= end && end <= list.len() {
+        &list[first..end]
+    } else {
+        &[]
+    }
+}
+
 impl ProposedAmounts {
     /// Returns the versions before all updates, with capacity for those of the updates.
     pub fn opening<M: Metric>(
@@ -199,14 +212,7 @@ impl ProposedAmounts {
 
     /// Returns the versions of an update.
     pub fn versions_of(&self, update: u16) -> &[Version] {
-        let first = self.first_version(update) as usize;
-        let next = (update as usize).saturating_add(1);
-        let end = self.starts.get(next).copied().unwrap_or(NONE) as usize;
-        if first <= end && end <= self.versions.len() {
-            &self.versions[first..end]
-        } else {
-            &[]
-        }
+        elements_of(&self.versions, &self.starts, update)
     }
 
     /// Returns the id of the first version of an update.

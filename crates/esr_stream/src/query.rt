@@ -10,7 +10,7 @@ ghost use Rattle.esr_order.specs.Scans.{accesses_in};
 ghost use Rattle.esr_stream.specs.Query.{cost_in, updates_of};
 ghost use Rattle.esr_stream.specs.declared.reads.TheConstants.{OFFSET};
 
-use crate::reads::{raised_cost, values_by_item};
+use crate::reads::{offset_cost, values_by_item};
 use esr_history::{History, TxnId};
 use esr_items::{ItemId, Metric};
 use esr_order::{Access, Index, count_must, is_committed_query, updates_before};
@@ -157,7 +157,7 @@ impl<'a, M: Metric> AuditedQuery<'a, M> {
         requires version { IsValue version }
         ensures { result ≡ cost_in M.distance_by self.now x.0 version }
     {
-        raised_cost(self.history.metric(), &self.values_read, x, version)
+        offset_cost(self.history.metric(), &self.values_read, x, version)
     }
 
     /// Returns the cost of the opening value of an item, plus the offset.

@@ -1,7 +1,7 @@
 //! The values that a query read, by item, and the costs of versions.
 ghost use Rattle.std.specs.Prelude.{◌≡◌, ◌<◌, ◌++◌, ◌∷◌, [], ℕ, IfOk, OnOk, length};
 ghost use Rattle.esr_items.specs.Values.{IsValue};
-ghost use Rattle.esr_stream.specs.Reads.{AreReadsInRange, list_at, raised, values_of};
+ghost use Rattle.esr_stream.specs.Reads.{AreReadsInRange, list_at, offset_cost, values_of};
 
 use esr_items::{ItemId, Metric};
 use esr_order::{Access, distance_to, empty_lists};
@@ -47,11 +47,11 @@ pub fn values_by_item(
 }
 
 /// Returns the cost of a version of an item, plus the offset.
-pub fn raised_cost<M: Metric>(metric: &M, values_read: &[Vec<i64>], x: ItemId, version: i64) -> u64
+pub fn offset_cost<M: Metric>(metric: &M, values_read: &[Vec<i64>], x: ItemId, version: i64) -> u64
     requires item { x.0 < length values_read.now }
     requires reads_in_range { AreReadsInRange values_read.now }
     requires version { IsValue version }
-    ensures { result ≡ raised (M.distance_by (M.weights metric.now)) values_read.now x.0 version }
+    ensures { result ≡ offset_cost (M.distance_by (M.weights metric.now)) values_read.now x.0 version }
 {
     distance_to(metric, x, &values_read[x.0 as usize], version) + OFFSET
 }

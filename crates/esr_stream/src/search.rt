@@ -32,6 +32,25 @@ enum ResidualArc {
     Repay(u32),
 }
 
+/// One end of the arc of a version.
+#[derive(Clone, Copy, PartialEq, Eq)]
+enum VersionEnd {
+    /// The update that writes the version.
+    Writer,
+    /// The update that overwrites it.
+    Overwriter,
+}
+
+impl VersionEnd {
+    /// Returns the residual arc from this end of a version to the reader of one of its reads.
+    fn arc_of(self, read: u32) -> ResidualArc {
+        match self {
+            VersionEnd::Writer => ResidualArc::Raise(read),
+            VersionEnd::Overwriter => ResidualArc::Repay(read),
+        }
+    }
+}
+
 /// An update that a breadth-first search has reached.
 #[derive(Clone, Copy)]
 struct Reached {
@@ -152,46 +171,34 @@ impl SearchState {
                     arc: ResidualArc::Decrease(id),
                 })?;
             }
-            self.expand_readers(&amounts.reads, id)?;
-            self.expand_borrowers(&amounts.reads, version.overwritten())?;
+            self.expand_readers(&amounts.reads, id, VersionEnd::Writer)?;
+            let overwritten = version.overwritten();
+            self.expand_readers(&amounts.reads, overwritten, VersionEnd::Overwriter)?;
             id = id.saturating_add(1);
         }
         self.expand_reads(&amounts.reads, update)?;
         Ok(None)
     }
 
-    /// Enqueues the updates that read a version of the expanded update: each can raise its amount, which lowers what the update
-    /// itself has to carry.
-    fn expand_readers(&mut self, reads: &UpdateReads, version: u32) -> Result<(), AllocError> {
+    /// Enqueues readers of a version at one end of which the expanded update is. If the update writes the version, each read can
+    /// raise its amount, which lowers what the update itself has to carry. If it overwrites the version, each loan can decrease.
+    fn expand_readers(
+        &mut self,
+        reads: &UpdateReads,
+        version: u32,
+        end: VersionEnd,
+    ) -> Result<(), AllocError> {
         let mut next = reads.first_of_version(version);
         for _ in 0..reads.reads.len() {
             let Some(read) = reads.get(next) else {
                 return Ok(());
             };
             self.visits_left = self.visits_left.saturating_sub(1);
-            self.enqueue(Reached {
-                update: read.reader,
-                predecessor: self.head,
-                arc: ResidualArc::Raise(next),
-            })?;
-            next = reads.next_of(read);
-        }
-        Ok(())
-    }
-
-    /// Enqueues the updates that have a loan from a version that the expanded update overwrites: each loan can decrease.
-    fn expand_borrowers(&mut self, reads: &UpdateReads, version: u32) -> Result<(), AllocError> {
-        let mut next = reads.first_of_version(version);
-        for _ in 0..reads.reads.len() {
-            let Some(read) = reads.get(next) else {
-                return Ok(());
-            };
-            self.visits_left = self.visits_left.saturating_sub(1);
-            if 0 < read.loan {
+            if end == VersionEnd::Writer || 0 < read.loan {
                 self.enqueue(Reached {
                     update: read.reader,
                     predecessor: self.head,
-                    arc: ResidualArc::Repay(next),
+                    arc: end.arc_of(next),
                 })?;
             }
             next = reads.next_of(read);

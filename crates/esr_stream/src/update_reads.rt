@@ -6,7 +6,7 @@
 //! no update overwrites has no second arc, and an opening value has no first one.
 //!
 //! The reads are in a separate table, in commit order, so updates that only write pay nothing for them.
-use crate::amounts::{NOBODY, NONE};
+use crate::amounts::{NOBODY, NONE, elements_of};
 use std::alloc::{AllocError, Global};
 
 /// A read of a version by an update.
@@ -103,14 +103,7 @@ impl UpdateReads {
 
     /// Returns the reads of an update.
     pub fn of_update(&self, update: u16) -> &[UpdateRead] {
-        let first = self.first_of_update(update) as usize;
-        let next = (update as usize).saturating_add(1);
-        let end = self.starts.get(next).copied().unwrap_or(NONE) as usize;
-        if first <= end && end <= self.reads.len() {
-            &self.reads[first..end]
-        } else {
-            &[]
-        }
+        elements_of(&self.reads, &self.starts, update)
     }
 
     /// Returns the index of a read of a version, from which `next_of` leads to the others, or `NONE`.

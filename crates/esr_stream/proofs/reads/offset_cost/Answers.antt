@@ -4,8 +4,8 @@ use Rattle.esr_items.specs.Values.{IsValue}
 use Rattle.esr_stream.specs.Reads.{list_at, distance_sum}
 use Rattle.esr_stream.proofs.ValueLists.{list_is, value_fits}
 use Rattle.esr_stream.proofs.RowLaws.{cost_bounded}
-use Rattle.esr_stream.proofs.reads.raised_cost.Given.{Over}
-use Rattle.esr_stream.proofs.reads.raised_cost.Goals as goal
+use Rattle.esr_stream.proofs.reads.offset_cost.Given.{Over}
+use Rattle.esr_stream.proofs.reads.offset_cost.Goals as goal
 
 values : (g : Over) (c : goal.After-deref g) → c.deref.result.now ≡ list_at c.args.values_read.now c.args.x.0
 values g c = c.deref.ensures.value ∙ list_is c.args.values_read.now c.args.x.0 c.index-values_read-x.result c.requires.item c.index-values_read-x.is
