@@ -1,35 +1,32 @@
 -- The indices of the accepted entries of active transactions: the walk along the links that finds them, how a transaction
--- began by the first of its indices, and the operations at the sorted indices.
+-- began, and the operations at the sorted indices.
 use Rattle.std.proofs.Common.{◌≡◌, ℕ, ◌+◌, ◌<◌, Bool, true, false, cond, List, [], ◌∷◌, ◌++◌, length, reverse, filter, IsPermutation, IsSorted, Contains, eqb, refl, sym, ◌∙◌, ap, subst, ⊎_elim, arith, Option, None, Some, append-nil, append_assoc, slice_get, option_map, if◌then◌else◌}
 use Rattle.std.specs.Prelude.{unwrap_or}
 use Rattle.std.specs.List.{filter_map, cons_option, dedup}
 use Rattle.std.specs.List.Sorted.{IsStrictlyIncreasing}
 use Rattle.std.specs.Ordering.{nat_cmp}
 use Rattle.std.proofs.lemmas.Bool.{true≢false, cases_eq, eq-eqb}
-use Rattle.std.proofs.lemmas.Option.{same_Some}
-use Rattle.std.proofs.lemmas.List.{reverse-append, reverse-reverse}
+use Rattle.std.proofs.lemmas.List.{reverse-reverse}
 use Rattle.std.proofs.lemmas.List.Kept.{Contains-dedup_nat, Contains-from_dedup}
 use Rattle.std.proofs.lemmas.List.Sorted.{Contains-permutation, IsPermutation-sym}
 use Rattle.std.proofs.lemmas.Map.Keys.{IsStrictlyIncreasing-dedup}
-use Rattle.esr_items.specs.Weights.{weighted}
 use Rattle.esr_history.specs.declared.event.Event.{Event}
 use Rattle.esr_history.specs.declared.event.Event.TheVariants.{BeginUpdate, BeginQuery, Read, Write, Commit, Abort}
 use Rattle.esr_history.specs.declared.event.Entry.{Entry}
-use Rattle.esr_history.specs.declared.event.Reply.{Reply}
-use Rattle.esr_history.specs.declared.event.Reply.TheVariants.{Begun, Value, Wrote, Committed, Aborted, Refused}
-use Rattle.esr_history.specs.BackLinks.{accepted_txn, coded, earlier, is_some_eq, last_place, places_from, txn_in, txn_of}
-use Rattle.esr_history.specs.Events.{BeginRecord, begin_record, begin_record_of, begin_records, is_active, is_begun, is_refusal}
-use Rattle.esr_history.specs.Machine.{IsLegal, Schedule, accepted_in}
-use Rattle.esr_history.specs.Queries.{begins}
+use Rattle.esr_history.specs.declared.back_links.Facts.{Facts}
+use Rattle.esr_history.specs.BackLinks.{accepted_txn, coded, earlier, facts_of, is_some_eq, last_place, places_from, txn_in, txn_of}
+use Rattle.esr_history.specs.Events.{BeginRecord, begin_records, is_active, is_refusal}
+use Rattle.esr_history.specs.Machine.{Schedule, accepted_in}
 use Rattle.esr_history.proofs.LegalWellFormed.{begun_in_range}
 use Rattle.esr_history.proofs.Membership.{In, In-Contains, Contains-In, In-append_cases, In-append_left, In-append_right}
 use Rattle.esr_history.proofs.WellFormed.{active_parts}
-use Rattle.esr_order.proofs.Commits.{begin_place}
+use Rattle.esr_order.proofs.Commits.{facts_some}
 use Rattle.esr_order.proofs.Gathering.{In-reverse, In-of_reverse}
-use Rattle.esr_order.proofs.Linked.{IsWalk, accepted_owns, get_inside, walk_done, walk_next, walk_none, walk_smaller}
+use Rattle.esr_order.proofs.Linked.{IsWalk, accepted_owns, walk_done, walk_next, walk_none, walk_smaller}
 use Rattle.esr_order.proofs.Sparse.{in_places, sparse_entries}
 use Rattle.esr_engine.specs.declared.carrying.ActiveEntries.{ActiveEntries}
-use Rattle.esr_engine.specs.Carrying.{active_as, active_by, active_operations, begun_in, is_active_operation, is_of_active, AreActiveEntries}
+use Rattle.esr_engine.specs.declared.carrying.ActiveTxn.{ActiveTxn}
+use Rattle.esr_engine.specs.Carrying.{active_as, active_operations, is_active_operation, is_of_active, AreActiveEntries}
 
 -- ---- a walk
 
@@ -56,51 +53,19 @@ module _ (es : List Entry) (t : ℕ) (first places : List ℕ) (next : Option �
   pub appended_done : next ≡ None → places ≡ first ++ reverse (places_from accepted_txn t 0 es)
   appended_done none = was.is ∙ ap (λ l. first ++ l) (sym (reverse-reverse was.visited) ∙ ap reverse (walk_done accepted_txn t es was.visited next none was.walk))
 
--- the last of the indices is the first of the transaction
-pub last_is_first : (before own : List ℕ) (p : ℕ) (rest : List ℕ) → own ≡ p ∷ rest → reverse (before ++ reverse own) ≡ p ∷ (rest ++ reverse before)
-last_is_first before own p rest is = reverse-append before (reverse own) ∙ ap (λ l. l ++ reverse before) (reverse-reverse own ∙ is)
-
 -- ---- begins
 
-begun_accepted : (t : ℕ) (r : Reply) → begins t r ≡ true → is_refusal r ≡ false
-begun_accepted t (Begun u) is = refl
-begun_accepted t (Value v) is = absurd (true≢false (sym is))
-begun_accepted t Wrote is = absurd (true≢false (sym is))
-begun_accepted t Committed is = absurd (true≢false (sym is))
-begun_accepted t Aborted is = absurd (true≢false (sym is))
-begun_accepted t (Refused why) is = absurd (true≢false (sym is))
-
--- how a transaction began, by its record
-as_recorded : (h : Schedule) (t : ℕ) (b : BeginRecord) → begin_record (accepted_in h) t ≡ Some b → active_as h t ≡ active_by t b
-as_recorded h t b found =
-    ap (λ (o : Option BeginRecord). record {
+-- how a transaction began, by its facts
+pub begun_so : (h : Schedule) (t : ℕ) (f : Facts) → Some f ≡ facts_of h.entries t → ◌≡◌ {A = ActiveTxn} record { txn = record { 0 = t }; query = f.query; limit = f.limit; strict = f.strict } (active_as h t)
+begun_so h t f some =
+    let s = facts_some h.entries t f some in
+    ap (λ (g : Facts). let a : ActiveTxn = record { txn = record { 0 = t }; query = g.query; limit = g.limit; strict = g.strict } in a) s.2
+    ∙ sym (ap (λ (o : Option BeginRecord). let a : ActiveTxn = record {
       txn = record { 0 = t };
       query = unwrap_or (option_map (λ b. b.query) o) false;
       limit = unwrap_or (option_map (λ b. b.limit) o) 0;
       strict = unwrap_or (option_map (λ b. b.strict) o) false;
-    }) found
-
-module _ (h : Schedule) (legal : IsLegal weighted h) (t : ℕ) (begun : is_begun (accepted_in h) t ≡ true) where
-  -- a transaction that has begun has a first index
-  pub has_first : (p : ℕ) × (rest : List ℕ) × (places_from accepted_txn t 0 h.entries ≡ p ∷ rest)
-  has_first = let b = begin_place weighted h legal t begun in (b.2.0, b.2.1.rest, b.2.1.first)
-
-  module _ (p : ℕ) (first : slice_get (places_from accepted_txn t 0 h.entries) 0 ≡ Some p) where
-    pub first_inside : p < length h.entries
-    first_inside =
-        let b = begin_place weighted h legal t begun in
-        let same : b.2.0 ≡ p = same_Some b.2.0 p (sym (ap (λ l. slice_get l 0) b.2.1.first) ∙ first) in
-        subst (λ n. n < length h.entries) same (get_inside h.entries b.2.0 b.2.1.entry b.2.1.at)
-
-    -- the entry there is its begin
-    pub first_begins : (e : Entry) → slice_get h.entries p ≡ Some e → begun_in t e ≡ Some (active_as h t)
-    first_begins e at =
-        let b = begin_place weighted h legal t begun in
-        let same : b.2.0 ≡ p = same_Some b.2.0 p (sym (ap (λ l. slice_get l 0) b.2.1.first) ∙ first) in
-        let entry : b.2.1.entry ≡ e = same_Some b.2.1.entry e (sym b.2.1.at ∙ (ap (slice_get h.entries) same ∙ at)) in
-        subst (λ (e : Entry). begun_in t e ≡ Some (active_as h t)) entry
-        (ap (λ r. if r then None else option_map (active_by t) (begin_record_of b.2.1.entry.event)) (begun_accepted t b.2.1.entry.reply b.2.1.begins_it)
-        ∙ (ap (option_map (active_by t)) b.2.1.event ∙ ap Some (sym (as_recorded h t b.0 b.1))))
+    } in a) s.1)
 
 -- ---- the indices of all active transactions
 

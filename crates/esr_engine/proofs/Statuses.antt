@@ -1,7 +1,7 @@
 -- The account of a transaction, by its facts.
 use Rattle.std.proofs.Common.{◌≡◌, ℕ, true, false, not, ◌&&◌, refl, sym, ◌∙◌, ap, Option, None, Some, is_some, if◌then◌else◌, option_map}
 use Rattle.esr_history.specs.declared.back_links.Facts.{Facts}
-use Rattle.esr_history.specs.BackLinks.{ended_txn, last_place, facts_by, facts_of}
+use Rattle.esr_history.specs.BackLinks.{begin_place, ended_txn, last_place, facts_by, facts_of}
 use Rattle.esr_history.specs.Events.{BeginRecord, kind_of, begin_record, is_active, is_begun, is_committed}
 use Rattle.esr_history.specs.Machine.{DistanceFunction, Schedule, IsLegal, accepted_in}
 use Rattle.esr_order.specs.Scans.{is_commit_at}
@@ -31,11 +31,11 @@ module _ (d : DistanceFunction) (h : Schedule) (legal : IsLegal d h) (t : ℕ) w
       → Some (record { kind = kind_of f.query; limit = f.limit; charged = charged; txn_status = s }) ≡ account_of d h t
   account_from_facts f is charged amount s known = at (begin_record (accepted_in h) t) refl is
     where
-      at : (o : Option BeginRecord) → begin_record (accepted_in h) t ≡ o → Some f ≡ facts_by o (last_place ended_txn t h.entries)
+      at : (o : Option BeginRecord) → begin_record (accepted_in h) t ≡ o → Some f ≡ facts_by o (begin_place t h.entries) (last_place ended_txn t h.entries)
           → Some (record { kind = kind_of f.query; limit = f.limit; charged = charged; txn_status = s }) ≡ account_of d h t
       at None begun g = absurd (cc)
       at (Some b) begun g =
-          let same : f ≡ record { query = b.query; limit = b.limit; end = last_place ended_txn t h.entries } = cc in
+          let same : f ≡ record { query = b.query; strict = b.strict; limit = b.limit; begin = begin_place t h.entries; end = last_place ended_txn t h.entries } = cc in
           let before_it : s ≡ status_of (accepted_in h) t = known ∙ (ap (λ (x : Facts). status_at h.entries x.end) same ∙ status_is (ap is_some begun)) in
           let paid : charged ≡ charged_to d h b.query t = amount ∙ ap (λ (x : Facts). charged_to d h x.query t) same in
           ap (λ (x : Facts). Some (record { kind = kind_of x.query; limit = x.limit; charged = charged; txn_status = s })) same

@@ -1,11 +1,11 @@
 -- The parts of a renewal that carries the active transactions over.
-use Rattle.std.specs.Prelude.{◌≡◌, ◌<◌, ℕ, Bool, true, false, List, [], Option, None, Some, Contains, filter, length, map, option_map, slice_get, if◌then◌else◌}
+use Rattle.std.specs.Prelude.{◌≡◌, ◌<◌, ℕ, Bool, true, false, List, [], Option, None, Some, Contains, filter, length, map, slice_get, if◌then◌else◌}
 use Rattle.esr_history.specs.declared.event.Event.{Event}
 use Rattle.esr_history.specs.declared.event.Entry.{Entry}
 use Rattle.esr_history.specs.declared.event.Event.TheVariants.{Read, Write}
 use Rattle.esr_history.specs.declared.event.BeginKind.{BeginKind}
 use Rattle.esr_history.specs.declared.event.BeginKind.TheVariants.{Update, Query}
-use Rattle.esr_history.specs.Events.{BeginRecord, begin_record_of, is_active, is_query, is_refusal, limit_of, committed_value, current_value}
+use Rattle.esr_history.specs.Events.{is_active, is_query, is_refusal, limit_of, committed_value, current_value}
 use Rattle.esr_history.specs.Machine.{DistanceFunction, Schedule, Charge, accepted_in, charge_of_read, export_in, import_in, value_distance, writer}
 use Rattle.esr_history.specs.Queries.{is_strict}
 use Rattle.esr_history.specs.ReportBounds.{is_active_query}
@@ -13,14 +13,6 @@ use Rattle.esr_core.specs.Carried.{active_numbers, carried_operation, carried_re
 use Rattle.esr_engine.specs.declared.carrying.ActiveEntries.{ActiveEntries}
 use Rattle.esr_engine.specs.declared.carrying.ActiveTxn.{ActiveTxn}
 use Rattle.esr_engine.specs.declared.carrying.CarriedTxn.{CarriedTxn}
-
--- a transaction with this number that began so
-abbrev pub active_by : ℕ → BeginRecord → ActiveTxn
-active_by t b = record { txn = record { 0 = t }; query = b.query; limit = b.limit; strict = b.strict }
-
--- the transaction with this number that an entry begins, if it is an accepted begin
-abbrev pub begun_in : ℕ → Entry → Option ActiveTxn
-begun_in t e = if is_refusal e.reply then None else option_map (active_by t) (begin_record_of e.event)
 
 -- how a transaction began
 abbrev pub active_as : Schedule → ℕ → ActiveTxn

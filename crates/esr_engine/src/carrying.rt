@@ -5,7 +5,7 @@
 //! are then sorted. All else works on these lists, which are short if few entries are of active transactions. Rejected:
 //! a pass over the log, which took 11 ns for each entry, while all threads of a bank wait.
 
-ghost use Rattle.std.specs.Prelude.{◌≡◌, ◌+◌, ◌-◌, ◌<◌, ◌≤◌, ◌&&◌, ◌++◌, ◌∷◌, ◌==◌, ℕ, List, Some, true, count_by, nat_lt, if◌then◌else◌, length, map, filter, filter_map, reverse, slice_get, IfOk, IfSome, OnOk};
+ghost use Rattle.std.specs.Prelude.{◌≡◌, ◌+◌, ◌-◌, ◌<◌, ◌≤◌, ◌&&◌, ◌++◌, ◌==◌, Some, true, count_by, nat_lt, if◌then◌else◌, length, map, filter, filter_map, reverse, slice_get, IfOk, IfSome, OnOk};
 ghost use Rattle.std.specs.List.Sorted.{IsNonDecreasingBy};
 ghost use Rattle.esr_base.specs.declared.limits.TheConstants.{MAX_TRANSACTIONS};
 ghost use Rattle.esr_items.specs.Values.{IsValue};
@@ -18,7 +18,7 @@ ghost use Rattle.esr_history.specs.ReportBounds.{is_active_query};
 ghost use Rattle.esr_core.specs.States.{begin_event};
 ghost use Rattle.esr_history.specs.declared.event.Reply.TheVariants.{Begun};
 ghost use Rattle.esr_core.specs.Carried.{active_numbers, carried, carried_begin, carried_entries, new_number, settled};
-ghost use Rattle.esr_engine.specs.Carrying.{active_as, active_in, active_operations, begun_in, carried_entry, carried_in, is_of_active, open_amount, operation_entry, read_entry, uncommitted_distance, AreActiveEntries};
+ghost use Rattle.esr_engine.specs.Carrying.{active_as, active_in, active_operations, carried_entry, carried_in, is_of_active, open_amount, operation_entry, read_entry, uncommitted_distance, AreActiveEntries};
 
 use crate::engine::EmbeddedEngine;
 use esr_core::Machine;
@@ -58,30 +58,6 @@ pub struct CarriedTxn {
     pub settled: u64,
 }
 
-/// Returns the transaction with this number that an entry begins, if it is an accepted begin.
-fn begun_in(txn: TxnId, entry: Entry) -> Option<ActiveTxn>
-    ensures { result ≡ begun_in txn.0 entry }
-{
-    if entry.is_refused() {
-        return None;
-    }
-    match entry.event {
-        Event::BeginUpdate { limit } => Some(ActiveTxn {
-            txn,
-            query: false,
-            limit,
-            strict: false,
-        }),
-        Event::BeginQuery { limit, strict } => Some(ActiveTxn {
-            txn,
-            query: true,
-            limit,
-            strict,
-        }),
-        _ => None,
-    }
-}
-
 /// Appends the indices of the accepted entries of a transaction, from the last to the first.
 fn push_places(
     history: &History<Weighted>,
@@ -97,16 +73,6 @@ fn push_places(
         next = history.earlier_of_txn(i);
     }
     Ok(())
-}
-
-/// Returns the last of these indices, or 0 if there are none.
-fn last_of(places: &[u64]) -> u64
-    ensures { (p : ℕ) (rest : List ℕ) → reverse places.now ≡ p ∷ rest → result ≡ p }
-{
-    match places.last() {
-        None => 0,
-        Some(place) => *place,
-    }
 }
 
 /// Returns the begin of a carried transaction, with its limit minus its settled amount.
@@ -219,16 +185,19 @@ impl EmbeddedEngine {
         }
     }
 
-    /// Returns how a transaction began, given the index of its first accepted entry.
-    fn begun_at(&self, t: TxnId, place: u64) -> ActiveTxn
-        requires begun { is_begun (accepted_in self.now) t.0 ≡ true }
-        requires first { slice_get (places_from accepted_txn t.0 0 self.now.entries) 0 ≡ Some place }
+    /// Returns how a transaction began.
+    fn begun(&self, t: TxnId) -> ActiveTxn
+        requires { is_begun (accepted_in self.now) t.0 ≡ true }
         ensures { result ≡ active_as self.now t.0 }
     {
-        let _invariant = self.machine.log(); // brings the invariant into the proof
-        match begun_in(t, self.entry(place as usize)) {
-            Some(txn) => txn,
-            None => unreachable!(),
+        let Some(facts) = self.machine.history().facts(t) else {
+            unreachable!()
+        };
+        ActiveTxn {
+            txn: t,
+            query: facts.query,
+            limit: facts.limit,
+            strict: facts.strict,
         }
     }
 
@@ -243,7 +212,7 @@ impl EmbeddedEngine {
             let t = TxnId(k as u32 + 1);
             if self.is_active(t) {
                 push_places(self.machine.history(), t, &mut places)?;
-                txns.push(self.begun_at(t, last_of(&places)))?;
+                txns.push(self.begun(t))?;
             }
         }
         Ok(ActiveEntries { txns, places })

@@ -1,7 +1,7 @@
 -- The kinds and outcomes of transactions, and the distances of queries.
 use Rattle.std.specs.Prelude.{ℕ, List, Option, None, Some, is_some, if◌then◌else◌, option_map, unwrap_or}
 use Rattle.esr_history.specs.declared.event.Entry.{Entry}
-use Rattle.esr_history.specs.Events.{BeginRecord, begin_record, begin_record_of, is_committed, is_refusal}
+use Rattle.esr_history.specs.Events.{BeginRecord, begin_record, is_committed}
 use Rattle.esr_history.specs.Machine.{DistanceFunction, Schedule, accepted_in}
 use Rattle.esr_history.specs.Queries.{is_committed_query}
 use Rattle.esr_history.specs.BackLinks.{last_place, ended_txn}
@@ -17,10 +17,6 @@ use Rattle.esr_outcomes.specs.declared.outcome.TxnOutcome.TheVariants.{Committed
 -- the kind of the transaction that such a begin begins
 abbrev pub kind_of_begin : BeginRecord → TxnKind
 kind_of_begin b = if b.query then (if b.strict then StrictQuery else Query) else Update
-
--- the kind of the transaction that an entry begins, if that is accepted
-abbrev pub kind_begun : Entry → Option TxnKind
-kind_begun e = if is_refusal e.reply then None else option_map kind_of_begin (begin_record_of e.event)
 
 -- the kind of transaction t
 abbrev pub kind_of_txn : Schedule → ℕ → TxnKind

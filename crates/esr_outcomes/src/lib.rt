@@ -12,5 +12,5 @@ mod values;
 
 pub use auditor::Auditor;
 pub use esr_least::QueryAudit;
-pub use kind::{TxnKind, kind_at, kinds_of};
+pub use kind::{TxnKind, kind_of};
 pub use outcome::{TxnOutcome, outcome_of};

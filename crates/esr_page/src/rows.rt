@@ -3,7 +3,7 @@
 
 use crate::audits::AuditedDistance;
 use esr_history::{Entry, Event, Reply, TxnId};
-use esr_outcomes::{TxnKind, TxnOutcome, kind_at, kinds_of, outcome_of};
+use esr_outcomes::{TxnOutcome, outcome_of};
 use esr_report::name_of_transaction;
 use esr_views::Recording;
 use std::alloc::{AllocError, Global};
@@ -64,11 +64,7 @@ pub struct QueryRows<'a> {
 }
 
 /// A query, as it began and ended, if it is one.
-fn row_of<'a>(
-    recording: &'a Recording<'_>,
-    kinds: &[TxnKind],
-    query: TxnId,
-) -> Option<QueryRow<'a>> {
+fn row_of<'a>(recording: &'a Recording<'_>, query: TxnId) -> Option<QueryRow<'a>> {
     let facts = recording.history.facts(query)?;
     if !facts.query {
         return None;
@@ -76,7 +72,7 @@ fn row_of<'a>(
     Some(QueryRow {
         query,
         name: name_of_transaction(&recording.transactions, query),
-        is_strict: kind_at(kinds, query) == TxnKind::StrictQuery,
+        is_strict: facts.strict,
         limit: facts.limit,
         charged: recording.history.import(query),
         reads: 0,
@@ -93,10 +89,9 @@ fn queries_of<'a>(
 ) -> Result<QueryRows<'a>, AllocError> {
     let begun = recording.history.begun_count();
     let last = u32::try_from(begun).unwrap_or(u32::MAX);
-    let kinds = kinds_of(alloc, &recording.history)?;
     let mut rows = Vec::new(alloc);
     for number in 0..last.saturating_add(1) {
-        if let Some(row) = row_of(recording, &kinds, TxnId(number)) {
+        if let Some(row) = row_of(recording, TxnId(number)) {
             rows.push(row)?;
         }
     }

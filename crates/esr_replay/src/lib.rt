@@ -9,8 +9,6 @@
 
 mod metric_ref;
 mod replay;
-mod transaction;
 
 pub use metric_ref::MetricRef;
 pub use replay::{Replay, empty_machine, imported};
-pub use transaction::transaction_of;

@@ -1,6 +1,6 @@
 //! The accepted events of a history, as far as they can concern a query.
 
-use esr_history::{Entry, Event, History, Reply, TxnId};
+use esr_history::{Entry, Event, History, TxnId};
 use esr_items::{ItemId, Weighted};
 use std::alloc::{AllocError, Global};
 
@@ -31,28 +31,13 @@ impl Operation {
     }
 }
 
-/// Returns the transaction of an entry.
-fn txn_of(entry: Entry) -> Option<TxnId> {
-    match (entry.event, entry.reply) {
-        (_, Reply::Begun(txn)) => Some(txn),
-        (
-            Event::Read { txn, .. }
-            | Event::Write { txn, .. }
-            | Event::Commit { txn }
-            | Event::Abort { txn },
-            _,
-        ) => Some(txn),
-        _ => None,
-    }
-}
-
 /// Returns the operation of an entry, if it was accepted.
 fn operation_of(entry: Entry) -> Option<Operation> {
     if entry.is_refused() {
         return None;
     }
     Some(Operation {
-        txn: txn_of(entry)?,
+        txn: entry.txn()?,
         event: entry.event,
     })
 }

@@ -5,11 +5,9 @@ use Rattle.esr_history.specs.declared.event.Reply.{Reply}
 use Rattle.esr_history.specs.declared.event.Entry.{Entry}
 use Rattle.esr_history.specs.declared.event.Reply.TheVariants.{Value, Wrote, Refused}
 use Rattle.esr_history.specs.declared.event.Refusal.TheVariants.{BlockedByLock, BlockedByImport, BlockedByExport}
-use Rattle.esr_history.specs.Events.{begin_records}
-use Rattle.esr_history.specs.Machine.{Schedule, accepted_in, charges_in, export_in}
+use Rattle.esr_history.specs.Machine.{Schedule, charges_in, export_in}
 use Rattle.esr_history.specs.BackLinks.{begun_count}
 use Rattle.esr_items.specs.Weights.{weighted}
-use Rattle.esr_outcomes.specs.Outcomes.{kind_of_begin}
 use Rattle.esr_tables.specs.declared.rows.Columns.{Columns}
 use Rattle.esr_tables.specs.declared.tallies.Tally.{Tally}
 use Rattle.esr_tables.specs.Rows.{tally_of}
@@ -37,7 +35,6 @@ AreTallies es tallies = (t : ℕ) → t < length tallies → (d : Tally) → sli
 
 -- the columns of all transactions
 pub record AreColumns (h : Schedule) (c : Columns) : Type 0 where
-  pub kinds : c.kinds.items ≡ map kind_of_begin (begin_records (accepted_in h))
   pub many : begun_count h.entries < length c.tallies.items
   pub tallies : AreTallies h.entries c.tallies.items
   pub exports : c.exports.items ≡ map (export_in (charges_in weighted h)) (range_with_len 0 (begun_count h.entries + 1))

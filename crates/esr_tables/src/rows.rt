@@ -16,7 +16,7 @@ use crate::exports::{exports, nth_txn};
 use crate::tallies::{Tally, tallies};
 use esr_history::{History, NoMemory, TxnId};
 use esr_items::Weighted;
-use esr_outcomes::{Auditor, TxnKind, TxnOutcome, kind_at, kinds_of, outcome_of};
+use esr_outcomes::{Auditor, TxnKind, TxnOutcome, kind_of, outcome_of};
 use std::alloc::{AllocError, Global};
 
 /// A history's data about a transaction.
@@ -38,8 +38,6 @@ pub struct Row {
 /// The columns of all transactions, by their numbers.
 #[derive(Drop)]
 struct Columns {
-    /// The first is that of transaction 1.
-    kinds: Vec<TxnKind>,
     /// The first is of no transaction; transaction 1 has the second.
     tallies: Vec<Tally>,
     /// The first is of no transaction; transaction 1 has the second.
@@ -51,13 +49,8 @@ fn columns_of(alloc: Global, history: &History<Weighted>) -> Result<Columns, NoM
     ensures { IfOk result (λ c. AreColumns history.now.schedule c) }
 {
     let exports = exports(alloc, history)?;
-    let kinds = kinds_of(alloc, history)?;
     let tallies = tallies(alloc, history)?;
-    Ok(Columns {
-        kinds,
-        tallies,
-        exports,
-    })
+    Ok(Columns { tallies, exports })
 }
 
 /// Returns the limit of a transaction.
@@ -115,7 +108,7 @@ fn row_of(history: &History<Weighted>, columns: &Columns, t: TxnId, distance: Op
     let charged = import_or_export(history, &columns.exports, t);
     Row {
         number: t,
-        kind: kind_at(&columns.kinds, t),
+        kind: kind_of(history, t),
         limit,
         charged,
         left: limit.saturating_sub(charged),

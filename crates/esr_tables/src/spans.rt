@@ -6,7 +6,6 @@ ghost use Rattle.esr_tables.specs.Spans.{first_of, last_of};
 
 use esr_history::{Entry, History, Refusal, Reply, TxnId};
 use esr_items::Weighted;
-use esr_replay::transaction_of;
 use esr_views::Recording;
 use std::alloc::{AllocError, Global};
 
@@ -53,7 +52,7 @@ impl Spans {
         if is_mistaken(entry.reply) {
             return;
         }
-        let Some(txn) = transaction_of(entry) else {
+        let Some(txn) = entry.txn() else {
             return;
         };
         if let Some(span) = self.0.get_mut(txn.0 as usize) {

@@ -9,7 +9,6 @@ ghost use Rattle.esr_tables.specs.Entries.{with_reply, IsCountable, AreTallies};
 
 use esr_history::{Entry, History, Refusal, Reply};
 use esr_items::Weighted;
-use esr_replay::transaction_of;
 use std::alloc::{AllocError, Global};
 
 /// The counts of a transaction's lines, by their replies.
@@ -73,7 +72,7 @@ fn count(tallies: &mut Vec<Tally>, entry: Entry)
     ensures tallies { (es : List Entry) → AreTallies es tallies.old.items
         → AreTallies (es ++ entry ∷ []) tallies.new.items }
 {
-    let Some(txn) = transaction_of(entry) else {
+    let Some(txn) = entry.txn() else {
         return;
     };
     let t = txn.0 as usize;

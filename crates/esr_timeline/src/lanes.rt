@@ -3,8 +3,8 @@
 use crate::causes::ranking;
 use crate::source::Source;
 use esr_chart::{Arrow, Lane, Nearest};
-use esr_history::{Entry, Event, Refusal, Reply, TxnId};
-use esr_outcomes::{Auditor, TxnKind, kind_at, kinds_of, outcome_of};
+use esr_history::{Entry, Refusal, Reply, TxnId};
+use esr_outcomes::{Auditor, kind_of, outcome_of};
 use esr_report::name_of_transaction;
 use esr_text::first;
 use esr_trace::{NearestPlacement, QueryTrace, relevant_updates};
@@ -18,17 +18,6 @@ const MAX_CAUSES: usize = 6;
 
 /// With at most this many lanes, the writers of the values that were read have lanes too.
 const FEW_LANES: usize = 6;
-
-/// Returns the transaction of an event, unless it is a begin.
-pub fn txn_of(event: Event) -> Option<TxnId> {
-    match event {
-        Event::Read { txn, .. }
-        | Event::Write { txn, .. }
-        | Event::Commit { txn }
-        | Event::Abort { txn } => Some(txn),
-        Event::BeginUpdate { .. } | Event::BeginQuery { .. } => None,
-    }
-}
 
 /// Returns the transaction that blocked an event.
 pub fn blocker_of(reply: Reply) -> Option<TxnId> {
@@ -53,7 +42,7 @@ fn push_new(chosen: &mut Vec<TxnId>, txn: TxnId, upper_bound: usize) -> Result<(
 /// Returns the other transaction of an entry that blocked the query, or that the query blocked.
 fn opponent_of(entry: Entry, query: TxnId) -> Option<TxnId> {
     let blocker = blocker_of(entry.reply)?;
-    let txn = txn_of(entry.event)?;
+    let txn = entry.txn()?;
     if txn == query {
         Some(blocker)
     } else if blocker == query {
@@ -248,18 +237,13 @@ pub fn placements_of(
     Ok(all)
 }
 
-/// Returns the lane of a transaction of this kind.
-fn lane_of<'a>(
-    alloc: Global,
-    source: Source<'a>,
-    txn: TxnId,
-    kind: TxnKind,
-) -> Result<Lane<'a>, AllocError> {
+/// Returns the lane of a transaction.
+fn lane_of<'a>(alloc: Global, source: Source<'a>, txn: TxnId) -> Result<Lane<'a>, AllocError> {
     let facts = source.history.facts(txn);
     Ok(Lane {
         txn,
         name: name_of_transaction(source.transactions, txn),
-        kind,
+        kind: kind_of(source.history, txn),
         limit: facts.map_or(0, |facts| facts.limit),
         charged: source.history.import(txn),
         outcome: outcome_of(source.history, txn),
@@ -273,10 +257,9 @@ pub fn lanes_of<'a>(
     source: Source<'a>,
     chosen: &[TxnId],
 ) -> Result<Vec<Lane<'a>>, AllocError> {
-    let kinds = kinds_of(alloc, source.history)?;
     let mut lanes = Vec::new(alloc);
     for txn in chosen {
-        lanes.push(lane_of(alloc, source, *txn, kind_at(&kinds, *txn))?)?;
+        lanes.push(lane_of(alloc, source, *txn)?)?;
     }
     Ok(lanes)
 }

@@ -1,6 +1,6 @@
 //! The marks on lanes: one pass over the log. An event that was blocked and tried again at once has one mark.
 
-use crate::lanes::{blocker_of, lane_at, placements_of, txn_of};
+use crate::lanes::{blocker_of, lane_at, placements_of};
 use crate::notes::note_of;
 use crate::source::Source;
 use esr_chart::{Action, Arrow, Cause, Lane, Mark, Mistakes, Note};
@@ -44,14 +44,6 @@ fn action_of(entry: Entry) -> Option<Action> {
         (_, Reply::Committed) => Some(Action::Commit),
         (_, Reply::Aborted) => Some(Action::Abort),
         _ => None,
-    }
-}
-
-/// Returns the transaction of an entry.
-fn txn_in(entry: Entry) -> Option<TxnId> {
-    match entry.reply {
-        Reply::Begun(txn) => Some(txn),
-        _ => txn_of(entry.event),
     }
 }
 
@@ -147,7 +139,7 @@ fn mark_of<'a>(
     place: usize,
     entry: Entry,
 ) -> Option<Mark<'a>> {
-    let lane = lane_at(lanes, txn_in(entry)?)?;
+    let lane = lane_at(lanes, entry.txn()?)?;
     let mut mark = mark_with(source, lane, place, entry, action_of(entry)?);
     if let Some(placement) = placements.get(lane) {
         compare(source, placement, &mut mark, entry.event);
@@ -160,7 +152,7 @@ fn is_mistake(lanes: &[Lane<'_>], entry: Entry) -> bool {
     if !entry.is_refused() || cause_of(entry.reply).is_some() {
         return false;
     }
-    match txn_in(entry) {
+    match entry.txn() {
         Some(txn) => lane_at(lanes, txn).is_some(),
         None => true,
     }

@@ -6,7 +6,7 @@
 //! that of a committed query.
 
 use crate::traces::{ItemState, Step};
-use esr_history::{Event, History, Reply, TxnId};
+use esr_history::{Event, History, TxnId};
 use esr_items::{ItemId, Metric};
 use esr_replay::imported;
 use std::alloc::{AllocError, Global};
@@ -159,6 +159,7 @@ impl QueryTrace {
     ) -> Result<QueryTrace, AllocError> {
         let numbers = history.begun_count().saturating_add(1);
         let items = history.items() as usize;
+        let facts = history.facts(query);
         Ok(QueryTrace {
             query,
             reads: vec![in alloc; 0u64; items]?,
@@ -170,8 +171,8 @@ impl QueryTrace {
             charge_count: 0,
             is_cut: false,
             committed: 0,
-            begin: None,
-            is_strict: false,
+            begin: facts.map(|facts| facts.begin as usize),
+            is_strict: facts.is_some_and(|facts| facts.strict),
             has_ended: false,
         })
     }
@@ -321,14 +322,6 @@ impl QueryTrace {
         }
     }
 
-    /// Notes the begin of a transaction.
-    fn note_begin(&mut self, place: usize, txn: TxnId, is_strict: bool) {
-        if txn == self.query {
-            self.begin = Some(place);
-            self.is_strict = is_strict;
-        }
-    }
-
     /// Notes an accepted entry, by which each query imported this.
     pub fn note<M: Metric>(
         &mut self,
@@ -345,11 +338,6 @@ impl QueryTrace {
             (Event::Read { txn, item }, Some(before)) if txn == self.query => {
                 let amount = imported(imports, self.query);
                 self.note_read(place, item, before, amount)?;
-            }
-            (Event::BeginQuery { strict, .. }, _) => {
-                if let Reply::Begun(txn) = step.entry.reply {
-                    self.note_begin(place, txn, strict);
-                }
             }
             (Event::Commit { txn }, _) => {
                 let is_query = history.facts(txn).is_some_and(|facts| facts.query);

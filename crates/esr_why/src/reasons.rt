@@ -13,7 +13,7 @@ use crate::shortfall::shortfalls;
 use crate::waits::{LastEntries, Wait};
 use esr_history::{Entry, NoMemory, Refusal, Reply, TxnId};
 use esr_items::Weighted;
-use esr_replay::{Replay, transaction_of};
+use esr_replay::Replay;
 use esr_views::{Recording, ScriptView};
 use std::alloc::{AllocError, Global};
 
@@ -151,7 +151,7 @@ impl Reporter<'_> {
             return Ok(());
         };
         let place = self.replay.machine().log().len();
-        match transaction_of(entry) {
+        match entry.txn() {
             Some(txn) => self.report_of(place, entry, txn),
             None => self.step(place, entry),
         }

@@ -11,7 +11,6 @@ ghost use Rattle.esr_history.specs.declared.event.Entry.{Entry};
 ghost use Rattle.esr_why.specs.Waits.{AreLastEntries, BeginsWith, IsCycle, IsWaiting, turned};
 
 use esr_history::{Entry, Log, Refusal, Reply, TxnId};
-use esr_replay::transaction_of;
 use std::alloc::{AllocError, Global};
 
 /// A transaction whose last event was blocked by a lock of another.
@@ -66,7 +65,7 @@ impl LastEntries {
         ensures { (es : List Entry) → place ≡ length es → AreLastEntries es self.old.places.items
             → AreLastEntries (es ++ entry ∷ []) self.new.places.items }
     {
-        let Some(txn) = transaction_of(entry) else {
+        let Some(txn) = entry.txn() else {
             return;
         };
         let at = txn.0 as usize;

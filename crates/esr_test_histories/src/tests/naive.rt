@@ -121,21 +121,19 @@ fn begin_of(log: &Log, t: u32) -> Option<usize> {
 
 /// Returns the facts of a transaction.
 fn facts_of(log: &Log, t: u32) -> Option<Facts> {
-    let end = end_of(log, t);
-    let begin = log.get(begin_of(log, t)?)?;
-    match begin.event {
-        Event::BeginQuery { limit, .. } => Some(Facts {
-            query: true,
-            limit,
-            end,
-        }),
-        Event::BeginUpdate { limit } => Some(Facts {
-            query: false,
-            limit,
-            end,
-        }),
-        _ => None,
-    }
+    let begin = begin_of(log, t)?;
+    let (query, strict, limit) = match log.get(begin)?.event {
+        Event::BeginQuery { limit, strict } => (true, strict, limit),
+        Event::BeginUpdate { limit } => (false, false, limit),
+        _ => return None,
+    };
+    Some(Facts {
+        query,
+        strict,
+        limit,
+        begin: begin as u64,
+        end: end_of(log, t),
+    })
 }
 
 /// Returns the last accepted operation before a place on the item of the entry there.

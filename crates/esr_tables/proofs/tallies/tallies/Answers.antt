@@ -1,7 +1,7 @@
 use Rattle.std.proofs.Common.{◌≡◌, ◌∙◌, List, ap, sym, subst, arith, take, Some, slice_get}
 use Rattle.esr_history.specs.declared.event.Entry.{Entry}
 use Rattle.esr_tables.specs.Entries.{AreTallies}
-use Rattle.esr_outcomes.proofs.Begun.{take_next}
+use Rattle.esr_tables.proofs.Places.{take_next}
 use Rattle.esr_tables.proofs.tallies.tallies.Goals as goal
 
 pub loop-place-preserved : goal.loop-place-preserved

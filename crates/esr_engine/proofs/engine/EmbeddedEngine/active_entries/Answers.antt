@@ -1,15 +1,14 @@
-use Rattle.std.proofs.Common.{◌≡◌, ◌∙◌, ◌+◌, ◌++◌, ◌∷◌, [], ap, sym, subst, arith, true, false, Some, length, map, filter, reverse, slice_get}
+use Rattle.std.proofs.Common.{◌≡◌, ◌∙◌, ◌+◌, ◌++◌, ◌∷◌, [], ap, sym, subst, arith, true, false, length, map, filter, reverse}
 use Rattle.std.specs.List.{range_with_len}
 use Rattle.esr_items.specs.Weights.{weighted}
 use Rattle.esr_history.specs.BackLinks.{accepted_txn, places_from}
 use Rattle.esr_history.specs.Events.{begin_records, is_active}
 use Rattle.esr_history.specs.Machine.{IsLegal, Schedule, accepted_in}
 use Rattle.esr_history.proofs.Membership.{Contains-In}
-use Rattle.esr_history.proofs.WellFormed.{active_parts}
 use Rattle.esr_history.proofs.WithinRanges.{legal_begins}
 use Rattle.esr_engine.specs.declared.carrying.ActiveTxn.{ActiveTxn}
 use Rattle.esr_engine.specs.Carrying.{active_as}
-use Rattle.esr_engine.proofs.ActivePlaces.{CoverUpTo, cover_all, cover_more, cover_same, has_first, last_is_first}
+use Rattle.esr_engine.proofs.ActivePlaces.{CoverUpTo, cover_all, cover_more, cover_same}
 use Rattle.esr_engine.proofs.CarriedParts.{active_push, active_skip}
 use Rattle.esr_engine.proofs.engine.EmbeddedEngine.active_entries.Goals.{then-is_active+in_ok-push_places+in_ok-push, else-is_active}
 use Rattle.esr_engine.proofs.engine.EmbeddedEngine.active_entries.Goals as goal
@@ -24,15 +23,6 @@ overflow_add-t c =
     let most = legal_begins weighted c.args.self.now (subst (IsLegal weighted) c.self.view_is c.log-invariant.ensures.legal) in
     omega (arith, most, c.count_begun-k-end.ensures, c.loop-k-test.true)
 
-pub begun_at-requires-clause-first : goal.begun_at-requires-clause-first
-begun_at-requires-clause-first c =
-    let h = c.args.self.now in let t = c.loop-k.k + 1 in let before = c.loop-k.places.items in
-    let act : is_active (accepted_in h) t ≡ true = sym c.is_active.ensures ∙ c.if-is_active.true in
-    let first = has_first h (subst (IsLegal weighted) c.self.view_is c.log-invariant.ensures.legal) t (active_parts (accepted_in h) t act).0 in
-    let grown = c.in_ok-push_places.ensures ∙ ap (λ (g : Schedule). before ++ reverse (places_from accepted_txn t 0 g.entries)) (c.history.ensures.schedule ∙ c.self.view_is) in
-    ap (λ l. slice_get l 0) first.2
-    ∙ ap Some (sym (c.last_of.ensures first.0 _ (ap reverse (c.deref.ensures.value ∙ grown) ∙ last_is_first before (places_from accepted_txn t 0 h.entries) first.0 first.1 first.2)))
-
 pub loop-k-preserved : goal.loop-k-preserved
 loop-k-preserved c =
     let h = c.args.self.now in let k = c.loop-k.k in let was = c.loop-k.invariant in let places = c.loop-k.places.items in
@@ -41,8 +31,8 @@ loop-k-preserved c =
           let act : is_active (accepted_in h) (k + 1) ≡ true = sym c.is_active.ensures ∙ w.if-is_active.true in
           let grown = w.in_ok-push_places.ensures ∙ ap (λ (g : Schedule). places ++ reverse (places_from accepted_txn (k + 1) 0 g.entries)) (w.history.ensures.schedule ∙ c.self.view_is) in
           record {
-            txns = ap (λ v. v.items) w.txns-is ∙ (w.in_ok-push.ensures.items ∙ (ap (λ l. l ++ w.begun_at.result ∷ []) was.txns
-                ∙ (ap (λ (a : ActiveTxn). map (active_as h) (filter (is_active (accepted_in h)) (range_with_len 1 k)) ++ a ∷ []) w.begun_at.ensures ∙ sym (active_push h k act))));
+            txns = ap (λ v. v.items) w.txns-is ∙ (w.in_ok-push.ensures.items ∙ (ap (λ l. l ++ w.begun.result ∷ []) was.txns
+                ∙ (ap (λ (a : ActiveTxn). map (active_as h) (filter (is_active (accepted_in h)) (range_with_len 1 k)) ++ a ∷ []) w.begun.ensures ∙ sym (active_push h k act))));
             places = cover_more h k places c.if-is_active.places.items (ap (λ v. v.items) w.places-is ∙ grown) was.places;
           }
       | else-is_active w ↦
