@@ -1,14 +1,15 @@
 //! The lock of a bank: a spin lock that its last holder keeps for a short lease, and whose sleepers wait no longer than about
-//! a tenth of a millisecond.
+//! a tenth of a millisecond and a lease.
 //!
 //! A transaction holds the lock for less than a microsecond. If the next one is of another thread, the engine's data moves to
 //! the cache of another processor, which takes as long again. So a holder that leaves while other threads poll *reserves* the
 //! gate for itself: it enters again at once, and the others do not try. Its *lease* ends with the first hold after a poller
-//! has waited for 20 microseconds and requested the end (`poller`); then the gate is open, and threads enter in about the
-//! order of their arrival. The former owner is the last of them. A reservation that is not used for two microseconds is taken
-//! over. If the time between two holds of a thread is too long, leases are suspended (`trial`), and whoever comes first
-//! enters. Without pollers nothing is reserved, so a lone thread waits for no one. An update whose draft was stale reserves the
-//! gate in any case, since it has waited already and comes back as soon as its body has run ([`Guard::reserve`]).
+//! has waited for the length of a lease and requested the end; then the gate is open, and threads enter in about the order of
+//! their arrival. The former owner is the last of them. A lease takes 20 microseconds, or more if more threads poll
+//! (`poller`). A reservation that is not used for five microseconds is taken over. If the time between two holds of a thread
+//! is too long, leases are suspended (`trial`), and whoever comes first enters. Without pollers nothing is reserved, so a lone
+//! thread waits for no one. An update whose draft was stale reserves the gate in any case, since it has waited already and
+//! comes back as soon as its body has run ([`Guard::reserve`]).
 //!
 //! A thread polls for a short time before it sleeps, and a thread that polls may overtake one that sleeps: waking a thread
 //! takes longer than many transactions. Without a limit sleepers would wait for many milliseconds. So a sleeper is woken when
@@ -50,7 +51,9 @@ mod poller;
 mod tests;
 mod trial;
 
-use crate::sync::{AtomicU64, Instant, Thread, current, park_timeout, spin_loop, thread_number};
+use crate::sync::{
+    Apart, AtomicU64, Instant, Thread, current, park_timeout, spin_loop, thread_number,
+};
 use poller::Poller;
 use std::{
     collections::VecDeque,
@@ -109,11 +112,6 @@ struct Sleeper {
     since: Instant,
     is_woken: bool,
 }
-
-/// A value in its own cache lines.
-#[derive(Debug, Default)]
-#[repr(align(128))]
-struct Apart<T>(T);
 
 /// What holders change at each hold.
 #[derive(Debug, Default)]

@@ -45,7 +45,7 @@
 use crate::{
     Error, Refusal,
     error::Refused,
-    sync::{AtomicI64, AtomicU64, fence, spin_loop, yield_now},
+    sync::{Apart, AtomicI64, AtomicU64, fence, spin_loop, yield_now},
     sys,
 };
 use std::{cell::Cell, collections::HashMap, sync::atomic::Ordering};
@@ -71,8 +71,8 @@ struct Mirrored {
 /// The committed values of all items. Only the holder of the bank's lock publishes.
 #[derive(Debug)]
 pub(crate) struct Mirror {
-    /// The last publication.
-    now: AtomicU64,
+    /// The last publication. Each commit writes it, and each body reads the bank's other fields.
+    now: Apart<AtomicU64>,
     items: Box<[Mirrored]>,
 }
 
@@ -83,7 +83,7 @@ impl Mirror {
             value: AtomicI64::new(*value),
         };
         Mirror {
-            now: AtomicU64::new(0),
+            now: Apart(AtomicU64::new(0)),
             items: opening.iter().map(mirrored).collect(),
         }
     }
@@ -118,13 +118,13 @@ impl Mirror {
         if writes.clone().next().is_none() {
             return;
         }
-        let next = self.now.load(Ordering::Relaxed) + 2;
+        let next = self.now.0.load(Ordering::Relaxed) + 2;
         for (item, _) in writes.clone() {
             let version = &self.items[item as usize].version;
             version.store(next - 1, Ordering::Relaxed);
         }
         // a thread that sees this moment, or a value of it, sees the marks and waits for the values
-        self.now.store(next, Ordering::Release);
+        self.now.0.store(next, Ordering::Release);
         fence(Ordering::Release);
         for (item, value) in writes {
             let mirrored = &self.items[item as usize];
@@ -194,7 +194,7 @@ impl Draft {
         self.events.clear();
         self.push(BEGIN_UPDATE, 0, 0);
         self.overtaken = false;
-        self.moment = mirror.now.load(Ordering::Acquire);
+        self.moment = mirror.now.0.load(Ordering::Acquire);
     }
 
     fn place(&self, item: u32) -> Option<usize> {
@@ -265,7 +265,7 @@ impl Draft {
                 return Ok(value);
             }
             // the value is newer than the earlier reads: are these still the committed values at a later moment?
-            let now = mirror.now.load(Ordering::Acquire);
+            let now = mirror.now.0.load(Ordering::Acquire);
             if self.is_stale(mirror) {
                 self.overtaken = true;
                 return Err(Error::Overtaken);

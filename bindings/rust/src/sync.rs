@@ -11,6 +11,11 @@ pub(crate) use crate::interleave::{
 #[cfg(not(test))]
 pub(crate) use real::*;
 
+/// A value in its own cache lines: two, since processors fetch lines in pairs.
+#[derive(Debug, Default)]
+#[repr(align(128))]
+pub(crate) struct Apart<T>(pub(crate) T);
+
 #[cfg(not(test))]
 mod real {
     pub(crate) use std::{

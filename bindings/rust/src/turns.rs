@@ -34,6 +34,8 @@ const TURN: Duration = Duration::from_millis(1);
 const SLOW: Duration = Duration::from_micros(50);
 /// The number of updates after which a thread looks at the clock.
 const LOOK: u32 = 16;
+/// This number of busy threads more than processors is many.
+const MANY: u64 = 2;
 /// The milliseconds for which busy threads are counted. Each ends a turn within them, unless there are very many.
 const PERIOD: u128 = 32;
 
@@ -68,6 +70,11 @@ impl Crowd {
         }
         self.seen.fetch_or(bit, order);
         self.threads.load(order)
+    }
+
+    /// Reports whether many more threads are busy than there are processors.
+    fn is_crowded(&self, processors: u64) -> bool {
+        self.threads.load(Ordering::Relaxed) >= processors + MANY
     }
 }
 
@@ -127,6 +134,11 @@ pub(crate) fn begin_update(before_yield: impl FnOnce()) {
     });
 }
 
+/// Reports whether many more threads are busy with updates than there are processors.
+pub(crate) fn is_crowded() -> bool {
+    CROWD.is_crowded(*PROCESSORS)
+}
+
 #[cfg(test)]
 pub(crate) mod tests {
     use super::*;
@@ -178,6 +190,17 @@ pub(crate) mod tests {
         // one of them has ended
         assert!(run(&mut threads[..2], &crowd, fast, 464, 64) <= 64);
         assert_eq!(run(&mut threads[..2], &crowd, fast, 528, 200), 0);
+    }
+
+    /// From two busy threads more than processors on there are too many.
+    #[test]
+    fn many_threads_make_a_crowd() {
+        let crowd = Crowd::new();
+        let are_many = [0, 3, 4, 5].map(|threads| {
+            crowd.threads.store(threads, Ordering::Relaxed);
+            crowd.is_crowded(2)
+        });
+        assert_eq!(are_many, [false, false, true, true]);
     }
 
     /// Threads that do other work most of the time do not yield, and do not count.

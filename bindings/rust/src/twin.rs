@@ -20,8 +20,9 @@
 //! carried before. If the thread cannot be started, or this renewal fails, nothing is logged until the next renewal, and
 //! audits hold the lock: neither is tried twice in a history.
 //!
-//! The thread sleeps until a report begins. At a renewal without pending audits the log is dropped, and the second engine
-//! restarts from the values; with pending ones, the logs of both histories are kept until they are made.
+//! The thread sleeps until a report begins. After each part of the log it yields its processor, since an update may wait for
+//! it. At a renewal without pending audits the log is dropped, and the second engine restarts from the values; with pending
+//! ones, the logs of both histories are kept until they are made.
 //!
 //! Rejected: whole logs for banks that may never have a report; a renewal before the first report in any case, which would
 //! take the history from short programs that print it; reading the history back from the first engine, which would hold the
@@ -362,6 +363,7 @@ impl Auditor {
                         self.engine = None;
                     }
                     self.between.lock().keep(Part::Entries(entries));
+                    thread::yield_now();
                 }
                 Part::Audit(query, asker) => {
                     let audit = match &mut self.engine {

@@ -23,8 +23,8 @@ struct Place {
 
 /// The numbers of items by their names. A look-up of a name of up to eight bytes reads one cache line.
 ///
-/// It is an open-addressing table with more than twice as many places as items. The names are the program's own, so the hash
-/// need not resist chosen collisions.
+/// It is an open-addressing table with at least twice as many places as items: 128 KB for the largest bank, which leaves room
+/// in a processor's cache. The names are the program's own, so the hash need not resist chosen collisions.
 #[derive(Debug)]
 struct Numbers {
     places: Box<[Place]>,
@@ -57,7 +57,7 @@ fn hash_of(name: &[u8], head: u64) -> u64 {
 
 impl Numbers {
     fn for_items(count: usize) -> Numbers {
-        let places = (2 * count + 2).next_power_of_two();
+        let places = (2 * count).next_power_of_two().max(2);
         let empty = Place {
             head: 0,
             length: 0,

@@ -3,33 +3,56 @@
 //! A look at the state takes its cache line away from the owner. So a thread polls the number of leases, which changes only
 //! when an owner opens the gate, and looks at the state after a change, and otherwise seldom: the one that is next every
 //! [`LOOK`], others less often. An open gate is entered in the order of arrival, roughly: a thread waits for as many polls as
-//! others may have arrived before it. It needs no queue for that: a thread that was preempted meanwhile does not keep others
-//! out.
+//! others may have arrived before it, and does not look meanwhile, so that the one that is next enters undisturbed. It needs
+//! no queue for that: a thread that was preempted meanwhile does not keep others out.
+//!
+//! The longer a lease, the fewer transactions find the engine's data in another cache, and the longer a thread waits for the
+//! leases of the others. A lease is short for one poller. With more of them the data of more threads moves, so a lease is
+//! longer. If many more threads are busy than there are processors, a thread waits for turns of a millisecond (`turns`), and
+//! leases of a twentieth of that hardly add to its wait.
+//!
+//! Rejected: leases of 100 microseconds for too many threads, which gained nothing, with a higher 99th percentile.
 
 use super::{Gate, Kind, State};
-use crate::sync::nanoseconds;
+use crate::{sync::nanoseconds, turns};
 use std::sync::atomic::Ordering;
 
-/// A lease ends on request after this time in nanoseconds.
-const LEASE: u64 = if cfg!(test) { 0 } else { 20_000 };
+/// A lease ends on request after this time in nanoseconds, if one thread polls.
+const LEASE: u64 = 20_000;
+/// A lease is longer by this time for each further thread that polls.
+const MORE: u64 = 6_000;
+/// The length of a lease if many more threads are busy than there are processors.
+const LONGER: u64 = 50_000;
 /// A reservation that is not used for this time in nanoseconds is taken over.
-const LOOK: u64 = if cfg!(test) { 1 } else { 2_000 };
-/// The number of polls in one lease before a thread sleeps.
-const POLLS: u32 = if cfg!(test) { 1 } else { 300 };
+const LOOK: u64 = if cfg!(test) { 1 } else { 5_000 };
+/// A thread sleeps after this time in one lease. No lease is as long, unless its owner is preempted.
+const MAX_WAIT: u64 = 200_000;
 /// The number of polls for which a thread lets urgent ones go first. They may have been preempted.
 const POLITE_POLLS: u32 = if cfg!(test) { 1 } else { 50 };
 /// The largest number of polls for which a thread lets earlier ones go first.
 const MAX_RANK: u64 = 4;
+
+/// Returns the length of a lease next to a number of threads that poll.
+pub(super) fn length(polling: u64, is_crowded: bool) -> u64 {
+    if is_crowded {
+        LONGER
+    } else {
+        LEASE + MORE * polling.saturating_sub(1)
+    }
+}
 
 pub(super) struct Poller<'a> {
     gate: &'a Gate,
     has_priority: bool,
     /// The number of leases when it arrived.
     arrived: u64,
-    /// The number of leases now, since when, and the number of polls since then.
+    /// The number of leases now, since when, for how long, and the number of polls since then.
     lease: u64,
     since: u64,
+    waited: u64,
     polls: u32,
+    /// The number of polls before it looks after the end of a lease.
+    early_polls: u64,
     /// The state at the last look, since when, and the number of looks since then.
     seen: State,
     seen_since: u64,
@@ -47,7 +70,9 @@ impl Poller<'_> {
             arrived: lease,
             lease,
             since: now,
+            waited: 0,
             polls: 0,
+            early_polls: 0,
             seen: State::default(),
             seen_since: now,
             looks: 0,
@@ -63,27 +88,43 @@ impl Poller<'_> {
 
     /// Reports whether it has polled in one lease for as long as is sensible.
     pub(super) fn is_tired(&self) -> bool {
-        self.polls >= POLLS
+        // no time passes in a test
+        self.polls > 0 && (cfg!(test) || self.waited >= MAX_WAIT)
     }
 
     /// Polls once. Reports whether it has entered.
     pub(super) fn poll(&mut self) -> bool {
         let (lease, now) = (self.gate.leases(), nanoseconds());
         if lease != self.lease {
-            (self.lease, self.since, self.polls) = (lease, now, 0);
-            return self.look(now);
+            (self.lease, self.since, self.waited, self.polls) = (lease, now, 0, 0);
+            self.early_polls = self.rank();
+            return self.early_polls == 0 && self.look(now, true);
         }
         self.polls += 1;
-        if now >= self.since + LEASE {
+        if self.early_polls > 0 {
+            self.early_polls -= 1;
+            return self.early_polls == 0 && self.look(now, true);
+        }
+        self.waited = now - self.since;
+        if self.is_over() {
             self.gate.request_end(lease);
         }
         let is_open = self.seen.kind() == Kind::Open;
-        (is_open || self.is_suspended || now >= self.next_look) && self.look(now)
+        (is_open || self.is_suspended || now >= self.next_look) && self.look(now, false)
+    }
+
+    fn polling(&self) -> u64 {
+        self.gate.waiting.0.polling.load(Ordering::Relaxed)
+    }
+
+    /// Reports whether the lease may end.
+    fn is_over(&self) -> bool {
+        cfg!(test) || self.waited >= length(self.polling(), turns::is_crowded())
     }
 
     /// Returns the number of threads that go first.
     fn rank(&self) -> u64 {
-        let polling = self.gate.waiting.0.polling.load(Ordering::Relaxed);
+        let polling = self.polling();
         let age = self.lease - self.arrived;
         let is_first = self.has_priority || self.is_suspended || polling <= 1;
         if is_first {
@@ -93,8 +134,8 @@ impl Poller<'_> {
         }
     }
 
-    /// Looks at the state, and tries to enter if it is this thread's turn.
-    pub(super) fn look(&mut self, now: u64) -> bool {
+    /// Looks at the state, and tries to enter if it is this thread's turn: at once if `is_next`.
+    pub(super) fn look(&mut self, now: u64, is_next: bool) -> bool {
         let seen = self.gate.state(Ordering::Acquire);
         if seen == self.seen {
             self.looks += 1;
@@ -110,7 +151,7 @@ impl Poller<'_> {
             return false;
         }
         match seen.kind() {
-            Kind::Open => self.looks >= rank && self.gate.take(seen).is_ok(),
+            Kind::Open => (is_next || self.looks >= rank) && self.gate.take(seen).is_ok(),
             Kind::Reserved => now >= self.seen_since + LOOK && self.gate.take_over(seen).is_ok(),
             Kind::Taken => false,
         }

@@ -219,15 +219,15 @@ fn an_unused_reservation_is_taken_over() {
     let gate = held(1);
     let mut poller = Poller::of(&gate, false);
     assert_eq!(left(&gate), Kind::Reserved);
-    assert!(!poller.look(1_000_000), "it may be used soon");
-    assert!(!poller.look(1_000_000) && poller.look(2_000_000));
+    assert!(!poller.look(1_000_000, false), "it may be used soon");
+    assert!(!poller.look(1_000_000, false) && poller.look(2_000_000, false));
     assert_eq!((left(&gate), gate.leases()), (Kind::Open, 1));
     // one that is used is not
     let gate = held(1);
     let mut poller = Poller::of(&gate, false);
     for time in 1..10 {
         gate.leave(Leave::ToReturn);
-        assert!(!poller.look(time * 1_000_000));
+        assert!(!poller.look(time * 1_000_000, false));
         assert!(gate.try_at_once(false));
     }
 }
@@ -242,6 +242,17 @@ fn a_poller_requests_the_end_of_a_lease() {
     assert_eq!(left(&gate), Kind::Reserved);
     assert!(gate.try_at_once(false) && !poller.poll());
     assert_eq!((left(&gate), gate.leases()), (Kind::Open, 2));
+}
+
+/// A lease is longer for more pollers, and longest if there are too many threads.
+#[test]
+fn more_threads_make_leases_longer() {
+    let lengths = [0, 1, 2, 7].map(|polling| poller::length(polling, false));
+    assert_eq!(lengths, [20_000, 20_000, 26_000, 56_000]);
+    assert_eq!(
+        [1, 7].map(|polling| poller::length(polling, true)),
+        [50_000; 2]
+    );
 }
 
 /// A thread ends its own lease only.
