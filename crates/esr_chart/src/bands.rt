@@ -31,7 +31,7 @@ fn push_limit_words(out: &mut String, limit: u64, y: u32) -> Result<(), AllocErr
 
 /// Appends the charges of a transaction.
 fn push_charged(out: &mut String, charged: u64, x: u32, y: u32) -> Result<(), AllocError> {
-    let class = if charged > 0 { "lb rd ha" } else { "lb gy ha" };
+    let class = if charged > 0 { "lb ch ha" } else { "lb gy ha" };
     open_text(out, class, x, y)?;
     out.push_str("charged ")?;
     push_number(out, charged)?;
@@ -326,6 +326,20 @@ fn push_way(
     write!(out, "V{end}")
 }
 
+/// Returns whether a charge is for a read of a value before its update committed: the entry is the read of the query.
+pub fn is_early_read(columns: &[Column<'_>], arrow: &Arrow<'_>) -> bool {
+    column_at(columns, arrow.place).is_some_and(|column| column.mark.lane == arrow.to)
+}
+
+/// Returns the class of the arrow of a charge.
+fn class_of(columns: &[Column<'_>], arrow: &Arrow<'_>) -> &'static str {
+    if is_early_read(columns, arrow) {
+        "ar er"
+    } else {
+        "ar"
+    }
+}
+
 /// Appends the arrow of a charge.
 fn push_arrow(
     out: &mut String,
@@ -337,9 +351,10 @@ fn push_arrow(
         return Ok(());
     };
     let prefix = prefix_of(scene);
+    let class = class_of(&band.columns, arrow);
     write!(
         out,
-        "<path class='ar' marker-end='url(#{prefix}-timeline-tip)' d='"
+        "<path class='{class}' marker-end='url(#{prefix}-timeline-tip)' d='"
     )?;
     push_way(out, scene, band, arrow, from)?;
     out.push_str("'>")?;
@@ -390,14 +405,14 @@ fn push_amount_words(
     arrow: &Arrow<'_>,
     y: u32,
 ) -> Result<u32, AllocError> {
-    open_centred(out, "lb rd ha", column.x, y)?;
+    open_centred(out, "lb ch ha", column.x, y)?;
     out.push('+')?;
     push_number(out, arrow.amount)?;
     let mut last = y;
     if column.is_folded {
         close_text(out)?;
         last = y.saturating_add(TEXT_ROW);
-        open_centred(out, "lb rd ha", column.x, last)?;
+        open_centred(out, "lb ch ha", column.x, last)?;
     } else {
         out.push(' ')?;
     }

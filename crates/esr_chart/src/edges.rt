@@ -38,14 +38,16 @@ fn half_of(letters: usize) -> u32 {
     width_of(letters).div_ceil(2)
 }
 
-/// Returns the letters of a read that is off and of the value in the nearest placement: `1,600 not 1,500`.
-fn off_letters(value: i64, there: i64, is_folded: bool) -> usize {
+/// Returns the letters of the longest row of the values of a read that is off: `1,600 not 1,500` and `off by 100`.
+fn off_letters(mark: &Mark<'_>, value: i64, there: i64, is_folded: bool) -> usize {
+    let off = number_letters(mark.distance()).saturating_add(7);
     let there = letters_of(there).saturating_add(4);
-    if is_folded {
+    let values = if is_folded {
         letters_of(value).max(there)
     } else {
         letters_of(value).saturating_add(there).saturating_add(1)
-    }
+    };
+    values.max(off)
 }
 
 /// Returns the letters of the longer of `u1 wrote 1,500` and `in step 57`.
@@ -85,7 +87,7 @@ fn note_letters(mark: &Mark<'_>) -> usize {
 fn value_letters(mark: &Mark<'_>, is_folded: bool) -> usize {
     match mark.action {
         Action::Read { value, nearest } => match nearest {
-            Some(there) => off_letters(value, there, is_folded),
+            Some(there) => off_letters(mark, value, there, is_folded),
             None => letters_of(value),
         },
         Action::Write { value } => letters_of(value),

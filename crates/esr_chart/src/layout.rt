@@ -44,6 +44,9 @@ const HEAD_HEIGHT: u32 = 66;
 /// From the arrows of charges that end at a query to the next lane, if the heads are in front of the lanes.
 const ARROW_LENGTH: u32 = 17;
 
+/// From the notes of the reads of a query to its charges.
+const CHARGE_GAP: u32 = 8;
+
 /// From row to row of the texts of a lane.
 pub const TEXT_ROW: u32 = 13;
 
@@ -120,7 +123,7 @@ pub struct Span {
     /// True if a charge of the band is to its transaction.
     has_charges: bool,
     is_folded: bool,
-    /// The rows of the longest note at a read of the band.
+    /// The rows of the longest note at a read of the band, with that of its distance.
     note_rows: u32,
 }
 
@@ -412,10 +415,14 @@ fn span_of(columns: &[Column<'_>], life: Life, left: u32, open_end: u32, is_last
     }
 }
 
-/// Returns the rows of the note at a column that is drawn.
+/// Returns the rows of the distance and the note at a column that is drawn.
 fn rows_of_note(column: &Column<'_>) -> u32 {
-    match column.mark.note {
-        Some(Note::Wrote(write)) if column.has_label => {
+    if !column.has_label {
+        return 0;
+    }
+    let distance = if column.mark.distance() > 0 { 1u32 } else { 0 };
+    distance.saturating_add(match column.mark.note {
+        Some(Note::Wrote(write)) => {
             let rows = if column.mark.has_note { 2 } else { 0 };
             if write.follows.is_some() {
                 rows + 1
@@ -423,9 +430,9 @@ fn rows_of_note(column: &Column<'_>) -> u32 {
                 rows
             }
         }
-        Some(Note::Equals(_)) if column.has_label => 1,
-        _ => 0,
-    }
+        Some(Note::Equals(_)) => 1,
+        None => 0,
+    })
 }
 
 /// Returns the rows of the longest note at a read of a lane.
@@ -638,13 +645,13 @@ impl Span {
     /// Returns the baseline of the amount of a charge, below the upper edge of the lane. Its item and the change are on the
     /// same row and the next one, or on the next three.
     pub fn amount_row(&self) -> u32 {
-        self.more_rows().saturating_add(57)
+        self.more_rows().saturating_add(57 + CHARGE_GAP)
     }
 
     /// Returns the upper edge of the bar of the limit, below that of the lane.
     pub fn bar_row(&self) -> u32 {
         let charges = if self.has_charges {
-            self.charge_height()
+            self.charge_height().saturating_add(CHARGE_GAP)
         } else {
             0
         };

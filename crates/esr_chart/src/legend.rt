@@ -1,7 +1,8 @@
 //! The legend: what each sign means, of those that occur, in rows as wide as the picture.
 
+use crate::bands::is_early_read;
 use crate::elements::{push_circle, push_cross, push_rect, push_square, push_text};
-use crate::layout::{Band, Layout, MARGIN};
+use crate::layout::{Band, Layout, MARGIN, charges_between};
 use crate::limits::has_bar;
 use crate::scene::{Action, Lane, Scene};
 use esr_outcomes::TxnOutcome;
@@ -15,16 +16,18 @@ enum Key {
     Write,
     Blocked,
     Charge,
+    EarlyRead,
     Limit,
     Open,
 }
 
-static KEYS: [Key; 7] = [
+static KEYS: [Key; 8] = [
     Key::Read,
     Key::Off,
     Key::Write,
     Key::Blocked,
     Key::Charge,
+    Key::EarlyRead,
     Key::Limit,
     Key::Open,
 ];
@@ -47,6 +50,7 @@ fn words_of(key: Key) -> &'static str {
         Key::Write => "write",
         Key::Blocked => "blocked",
         Key::Charge => "charge for a change",
+        Key::EarlyRead => "read before commit",
         Key::Limit => "used part of the limit",
         Key::Open => "aborted or still active",
     }
@@ -76,6 +80,13 @@ fn has_action(band: &Band<'_>, key: Key) -> bool {
         .any(|column| is_of(column.mark.action, key))
 }
 
+/// Returns whether a band has the arrow of a charge of a kind.
+fn has_charge(scene: &Scene<'_>, band: &Band<'_>, key: Key) -> bool {
+    charges_between(&scene.arrows, band.first_place(), band.end_place())
+        .iter()
+        .any(|arrow| is_early_read(&band.columns, arrow) == (key == Key::EarlyRead))
+}
+
 /// Returns whether the bar of the limit of a lane is filled.
 fn is_filled(lane: &Lane<'_>) -> bool {
     has_bar(lane) && lane.charged > 0
@@ -87,7 +98,10 @@ fn occurs(scene: &Scene<'_>, layout: &Layout<'_>, key: Key) -> bool {
         Key::Read | Key::Off | Key::Write | Key::Blocked => {
             layout.bands.iter().any(|band| has_action(band, key))
         }
-        Key::Charge => !scene.arrows.is_empty(),
+        Key::Charge | Key::EarlyRead => layout
+            .bands
+            .iter()
+            .any(|band| has_charge(scene, band, key)),
         Key::Limit => scene.lanes.iter().any(is_filled),
         Key::Open => scene
             .lanes
@@ -127,6 +141,15 @@ pub fn legend_height(scene: &Scene<'_>, layout: &Layout<'_>, width: u32) -> u32 
     rows.saturating_mul(ROW)
 }
 
+/// Appends the arrow of a charge.
+fn push_arrow(out: &mut String, class: &str, x: u32, y: u32, tip: &str) -> Result<(), AllocError> {
+    let end = x.saturating_add(24);
+    write!(
+        out,
+        "<path class='{class}' marker-end='url(#{tip})' d='M{x} {y}H{end}'/>"
+    )
+}
+
 /// Appends the sign of a key.
 fn push_sign(out: &mut String, key: Key, x: u32, y: u32, tip: &str) -> Result<(), AllocError> {
     let middle = x.saturating_add(13);
@@ -137,13 +160,8 @@ fn push_sign(out: &mut String, key: Key, x: u32, y: u32, tip: &str) -> Result<()
         Key::Off => push_circle(out, "mo", middle, height),
         Key::Write => push_square(out, middle, height),
         Key::Blocked => push_cross(out, middle, height),
-        Key::Charge => {
-            let end = x.saturating_add(24);
-            write!(
-                out,
-                "<path class='ar' marker-end='url(#{tip})' d='M{x} {height}H{end}'/>"
-            )
-        }
+        Key::Charge => push_arrow(out, "ar", x, height, tip),
+        Key::EarlyRead => push_arrow(out, "ar er", x, height, tip),
         Key::Limit => {
             push_rect(out, "lu", x, height, 26, 5)?;
             push_rect(out, "lf", x, top, 26, 10)

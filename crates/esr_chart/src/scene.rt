@@ -2,6 +2,7 @@
 
 use esr_history::TxnId;
 use esr_outcomes::{TxnKind, TxnOutcome};
+use esr_trace::OffReads;
 
 /// A lane: a transaction from its begin to its end.
 #[derive(Clone, Copy)]
@@ -106,6 +107,19 @@ pub struct Mark<'a> {
     pub has_note: bool,
 }
 
+impl Mark<'_> {
+    /// Returns the distance of a read from the value in the nearest placement, and 0 of any other event.
+    pub fn distance(&self) -> u64 {
+        match self.action {
+            Action::Read {
+                value,
+                nearest: Some(there),
+            } => value.abs_diff(there).saturating_mul(self.weight),
+            _ => 0,
+        }
+    }
+}
+
 /// A charge, from an update to the query of a lane.
 #[derive(Clone, Copy)]
 pub struct Arrow<'a> {
@@ -165,7 +179,9 @@ pub enum Order {
 #[derive(Clone, Copy)]
 pub struct Nearest<'a> {
     pub query: &'a str,
-    pub is_exact: bool,
+    /// The distance of the query, and its reads that are off.
+    pub distance: u64,
+    pub off_reads: OffReads,
     /// The number of updates before it, and of all that committed before the query did.
     pub updates: u64,
     pub committed: u64,

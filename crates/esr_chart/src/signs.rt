@@ -51,6 +51,14 @@ fn push_values(
     close_text(out)
 }
 
+/// Appends the distance of a read that is off.
+fn push_off(out: &mut String, column: &Column<'_>, y: u32) -> Result<(), AllocError> {
+    open_centred(out, "lb rd ha", column.x, y)?;
+    out.push_str("off by ")?;
+    push_number(out, column.mark.distance())?;
+    close_text(out)
+}
+
 /// Appends the write that explains a read, in two rows.
 fn push_write(out: &mut String, write: &NotedWrite<'_>, x: u32, y: u32) -> Result<(), AllocError> {
     let update = write.update;
@@ -129,7 +137,7 @@ fn push_blocker(
     (cause, times): (Cause, u64),
     y: u32,
 ) -> Result<(), AllocError> {
-    open_centred(out, "lb rd ha", column.x, y)?;
+    open_centred(out, "lb bl ha", column.x, y)?;
     push_cause(out, lane, column.mark.blocker, cause)?;
     if times > 1 {
         out.push_str(", ")?;
@@ -161,7 +169,9 @@ fn push_value_label(
         } => {
             push_values(out, column, value, there, y)?;
             let rows = if column.is_folded { 2 } else { 1 };
-            push_note(out, column, y.saturating_add(TEXT_ROW * rows))
+            let y = y.saturating_add(TEXT_ROW * rows);
+            push_off(out, column, y)?;
+            push_note(out, column, y.saturating_add(TEXT_ROW))
         }
         Action::Write { value } => push_mark_value(out, value, column.x, y),
         Action::Blocked { cause, times, .. } => push_blocker(out, lane, column, (cause, times), y),

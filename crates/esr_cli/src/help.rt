@@ -170,10 +170,10 @@ For example:
 pub const TIMELINE: &str = "The operands are a FILE and a NAME, in either order.
 
 The picture has a lane for each transaction: circles are reads, squares are writes,
-and red crosses are blocked lines. A red arrow is a charge, from the update to the
-report, with its amount. Below a report, its limit fills up. Of a long script, only
-the query NAME and the transactions that concern it are drawn; without a NAME, the
-committed query with the largest distance.
+and crosses are blocked lines. A blue arrow is a charge, from the update to the
+report, with its amount; it is dashed for a read before commit. Below a report, its
+limit fills up. Of a long script, only the query NAME and the transactions that
+concern it are drawn; without a NAME, the committed query with the largest distance.
 
 For example:
 

@@ -107,7 +107,7 @@ fn push_answer(
     push_verdict(out, &audited, trace)?;
     if finding.distance > 0 {
         out.push(' ')?;
-        push_nearest_moment(out, &audited, trace)?;
+        push_nearest_moment(alloc, out, &audited, trace)?;
     }
     if finding.problem.must().is_empty() {
         return Ok(());

@@ -165,9 +165,9 @@ fn open_description(
         out,
         "<title id='{query_name}-title'>Audit of {query_name}</title>\n"
     )?;
-    write!(out, "<desc id='{query_name}-desc'>Distance ")?;
+    write!(out, "<desc id='{query_name}-desc'>Off by ")?;
     push_number(out, distance)?;
-    out.push_str(", import ")?;
+    out.push_str(", charged ")?;
     push_number(out, import)?;
     out.push('.')
 }

@@ -32,7 +32,7 @@ fn push_rest(
             out.push_str("and ")?;
             push_value(out, value)?;
         }
-        Some(_) => write!(out, "and {more} more")?,
+        Some(_) => write!(out, "and {more} more values")?,
     }
     out.push_str("</text>")
 }
@@ -260,7 +260,7 @@ fn push_transient_reads(
     let Some(transient_read) = transient_reads.first else {
         return Ok(());
     };
-    let left = layout.x(0);
+    let left = layout.transient_left;
     let top = y.saturating_sub(4);
     push_horizontal(
         out,

@@ -40,7 +40,10 @@ const TWO_TRANSIENT_READ_LINES_HEIGHT: u32 = 40;
 /// What a line with the weight of an item adds to the distance from lane to lane.
 const WEIGHT_LINE_HEIGHT: u32 = 16;
 
-/// The distance from the start of a lane to the text about its transient read.
+/// The distance from the query's line to a text about a transient read.
+const AFTER_LINE: u32 = 8;
+
+/// The distance from the dashed green line of a transient read to the text about it, with that line.
 pub const TRANSIENT_READ_INDENT: u32 = 38;
 
 /// The distance from row to row of the legend.
@@ -65,6 +68,8 @@ pub struct Layout {
     /// The width of the text in front of a lane.
     pub label_width: u32,
     pub transient_read_lines: TransientReadLineCount,
+    /// The left edge of the texts about transient reads.
+    pub transient_left: u32,
     /// Whether the weight of some item is above 1.
     has_weights: bool,
     /// The height of the highest arrow that arches over other boxes.
@@ -166,6 +171,18 @@ fn width_right_of_line(x: u32, widths: MaxWidths) -> u32 {
     }
 }
 
+/// Returns the left edge of the texts about transient reads: after the query's line, so that none crosses it, or if there is
+/// no space, at the start of the lanes.
+fn transient_left(query_slot: u8, slots: &Slots, widths: MaxWidths) -> u32 {
+    let left = slots.x(query_slot).saturating_add(AFTER_LINE);
+    let text = TRANSIENT_READ_INDENT.saturating_add(widths.folded_transient_read);
+    if left.saturating_add(text).saturating_add(MARGIN) <= PREFERRED_MAX_WIDTH {
+        left
+    } else {
+        slots.x(0)
+    }
+}
+
 /// Returns half the width of the name of the query, which is centred below the query's line.
 fn half_name_width(query_name: &str) -> u32 {
     width_of(query_name.len()) / 2
@@ -183,10 +200,12 @@ fn needed_width(scene: &Scene<'_>, slots: &Slots, widths: MaxWidths) -> u32 {
         .saturating_add(half_name_width(scene.query_name))
         .saturating_add(30)
         .min(PREFERRED_MAX_WIDTH);
-    let transient_reads = slots
-        .x(0)
-        .saturating_add(TRANSIENT_READ_INDENT)
-        .saturating_add(widths.folded_transient_read);
+    let transient_reads = match widths.folded_transient_read {
+        0 => 0,
+        width => transient_left(scene.query_slot, slots, widths)
+            .saturating_add(TRANSIENT_READ_INDENT)
+            .saturating_add(width),
+    };
     slots
         .end()
         .max(transient_reads)
@@ -196,14 +215,9 @@ fn needed_width(scene: &Scene<'_>, slots: &Slots, widths: MaxWidths) -> u32 {
         .max(MIN_WIDTH)
 }
 
-/// Returns in how many lines the texts about transient reads are written in a picture of this width.
-fn transient_read_line_count(
-    slots: &Slots,
-    widths: MaxWidths,
-    width: u32,
-) -> TransientReadLineCount {
-    let end = slots
-        .x(0)
+/// Returns in how many lines the texts about transient reads, with this left edge, are written in a picture of this width.
+fn transient_read_line_count(left: u32, widths: MaxWidths, width: u32) -> TransientReadLineCount {
+    let end = left
         .saturating_add(TRANSIENT_READ_INDENT)
         .saturating_add(widths.transient_read)
         .saturating_add(MARGIN);
@@ -222,13 +236,15 @@ impl Layout {
         let mut slots = Slots::of(alloc, scene)?;
         let widths = max_widths(&scene.lanes);
         let width = needed_width(scene, &slots, widths);
+        let transient_left = transient_left(scene.query_slot, &slots, widths);
         slots.extend_to(width.saturating_sub(MARGIN));
         let texts = Texts::of(alloc, scene, width)?;
         Ok(Layout {
             width,
             box_width: box_width(&scene.updates),
             label_width: lanes_left(&scene.lanes).saturating_sub(40),
-            transient_read_lines: transient_read_line_count(&slots, widths, width),
+            transient_read_lines: transient_read_line_count(transient_left, widths, width),
+            transient_left,
             has_weights: scene.lanes.iter().any(|lane| lane.weight > 1),
             max_arch_height: max_arch_height(&scene.arrows, scene.query_slot),
             lane_count: scene.lanes.len().min(MAX_LANES) as u8,

@@ -10,12 +10,14 @@ use std::alloc::AllocError;
 #[derive(Clone, Copy, PartialEq, Eq)]
 enum Key {
     Read,
+    Again,
     Other,
     Several,
     Change,
     Write,
     Writes,
     Off,
+    AnotherFits,
     TransientRead,
     Before,
     After,
@@ -30,13 +32,15 @@ fn keys() -> &'static [Key] {
 }
 
 /// The keys, in the order in which they are drawn.
-static KEYS: [Key; 14] = [
+static KEYS: [Key; 16] = [
     Key::Read,
+    Key::Again,
     Key::Other,
     Key::Several,
     Key::Change,
     Key::Nearest,
     Key::Off,
+    Key::AnotherFits,
     Key::Share,
     Key::Before,
     Key::After,
@@ -48,18 +52,20 @@ static KEYS: [Key; 14] = [
 ];
 
 /// The width of a key with its text.
-const KEY_WIDTH: u32 = 216;
+const KEY_WIDTH: u32 = 230;
 
 /// Returns the meaning of a key.
 fn words_of(key: Key) -> &'static str {
     match key {
         Key::Read => "value that it read",
+        Key::Again => "read more than once",
         Key::Other => "other value",
-        Key::Several => "several values",
+        Key::Several => "values that are not drawn",
         Key::Change => "the value changes",
         Key::Write => "write by the box above",
         Key::Writes => "down to what it wrote",
-        Key::Off => "off at the line",
+        Key::Off => "a read is off at the line",
+        Key::AnotherFits => "another read fits here",
         Key::TransientRead => "read, but did not last",
         Key::Before => "update before the line",
         Key::After => "update after the line",
@@ -74,6 +80,7 @@ fn words_of(key: Key) -> &'static str {
 fn key_of(part: LanePart) -> Key {
     match part {
         LanePart::Version { reads: 0, .. } => Key::Other,
+        LanePart::Version { reads, .. } if reads > 1 => Key::Again,
         LanePart::Version { .. } => Key::Read,
         LanePart::Several { .. } => Key::Several,
     }
@@ -87,6 +94,22 @@ fn has_part(lane: &Lane<'_>, key: Key) -> bool {
         }
     }
     false
+}
+
+/// Returns whether a read of a lane differs from the version at the line.
+fn is_off(lane: &Lane<'_>) -> bool {
+    lane.difference > 0
+}
+
+/// Returns whether the version at the line is of this stretch and has a value that was read.
+fn is_read_at_line(segment: &LaneSegment) -> bool {
+    let part = segment.at_line.and_then(|index| segment.parts.get(index));
+    matches!(part, Some(LanePart::Version { reads, .. }) if *reads > 0)
+}
+
+/// Returns whether a read of a lane has the value of the version at the line.
+fn fits_at_line(lane: &Lane<'_>) -> bool {
+    lane.segments.iter().any(is_read_at_line)
 }
 
 /// Returns whether a stretch begins at a box.
@@ -112,7 +135,7 @@ fn has_change(lane: &Lane<'_>) -> bool {
 /// Returns whether the picture has what a key means.
 fn occurs(scene: &Scene<'_>, key: Key) -> bool {
     match key {
-        Key::Read | Key::Other | Key::Several => {
+        Key::Read | Key::Again | Key::Other | Key::Several => {
             scene.lanes.iter().any(|lane| has_part(lane, key))
         }
         Key::Change => scene.lanes.iter().any(has_change),
@@ -130,7 +153,15 @@ fn occurs(scene: &Scene<'_>, key: Key) -> bool {
         Key::Must => scene.updates.iter().any(|update| update.must),
         Key::First => !scene.arrows.is_empty(),
         Key::Nearest => !scene.lanes.is_empty(),
-        Key::Off | Key::Share => scene.lanes.iter().any(|lane| lane.difference > 0),
+        Key::Off => scene
+            .lanes
+            .iter()
+            .any(|lane| is_off(lane) && !fits_at_line(lane)),
+        Key::AnotherFits => scene
+            .lanes
+            .iter()
+            .any(|lane| is_off(lane) && fits_at_line(lane)),
+        Key::Share => scene.lanes.iter().any(is_off),
     }
 }
 
@@ -187,9 +218,9 @@ fn push_across(out: &mut String, class: &str, x: u32, y: u32) -> Result<(), Allo
     push_vertical(out, class, middle, y.saturating_sub(9), y.saturating_add(9))
 }
 
-/// Appends the line across a lane that is off, with its circle.
-fn push_off(out: &mut String, x: u32, y: u32) -> Result<(), AllocError> {
-    push_horizontal(out, "v", y, x, x.saturating_add(26))?;
+/// Appends the line across a lane of this class that is off, with its circle.
+fn push_off(out: &mut String, class: &str, x: u32, y: u32) -> Result<(), AllocError> {
+    push_horizontal(out, class, y, x, x.saturating_add(26))?;
     push_across(out, "l", x, y)?;
     let middle = x.saturating_add(13);
     write!(out, "<circle class='c' cx='{middle}' cy='{y}' r='5'/>")
@@ -207,12 +238,14 @@ fn push_sign(
     let right = x.saturating_add(26);
     match key {
         Key::Read => push_horizontal(out, "u", middle, x, right),
+        Key::Again => push_horizontal(out, "u y", middle, x, right),
         Key::Other => push_horizontal(out, "v", middle, x, right),
         Key::Several => push_horizontal(out, "v s", middle, x, right),
         Key::Change => push_change(out, x, middle),
         Key::Write => push_across(out, "t", x, middle),
         Key::Writes => push_across(out, "d", x, middle),
-        Key::Off => push_off(out, x, middle),
+        Key::Off => push_off(out, "v", x, middle),
+        Key::AnotherFits => push_off(out, "u", x, middle),
         Key::TransientRead => push_horizontal(out, "u s", middle, x, right),
         Key::Before => push_box(out, "b", x, y),
         Key::After => push_box(out, "a", x, y),

@@ -119,7 +119,7 @@ fn push_version(out: &mut String, value: i64, reads: u64) -> Result<(), AllocErr
     Ok(())
 }
 
-/// Appends the text of several versions: how many there are, after the first ones of the stretch how many more, and how
+/// Appends the text of several versions: how many there are, after the first ones of the stretch how many others, and how
 /// many of them have a value that was read.
 fn push_several(
     out: &mut String,
@@ -128,7 +128,7 @@ fn push_several(
     is_first: bool,
 ) -> Result<(), AllocError> {
     push_number(out, versions as u64)?;
-    out.push_str(if is_first { " values" } else { " more" })?;
+    out.push_str(if is_first { " values" } else { " others" })?;
     if fitting > 0 {
         out.push_str(", ")?;
         push_number(out, fitting as u64)?;

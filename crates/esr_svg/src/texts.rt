@@ -1,7 +1,7 @@
 //! The sentences of a picture, in lines as wide as it is.
 
 use crate::layout::MARGIN;
-use crate::scene::{Deciding, Scene};
+use crate::scene::{Deciding, LanePart, LaneSegment, Scene};
 use esr_text::{first, push_count, push_number, wrap};
 use std::alloc::{AllocError, Global};
 
@@ -47,9 +47,13 @@ fn letters_in(width: u32, letter: u32) -> usize {
 /// Returns the lines of the heading.
 fn heading_of(alloc: Global, scene: &Scene<'_>, width: u32) -> Result<Vec<String>, AllocError> {
     let mut words = String::from_str(alloc, scene.query_name)?;
-    words.push_str(": distance ")?;
-    push_number(&mut words, scene.distance)?;
-    words.push_str(", import ")?;
+    if scene.distance == 0 {
+        words.push_str(": exact, charged ")?;
+    } else {
+        words.push_str(": off by ")?;
+        push_number(&mut words, scene.distance)?;
+        words.push_str(", charged ")?;
+    }
     push_number(&mut words, scene.import)?;
     let mut lines = Vec::new(alloc);
     wrap(alloc, &mut lines, letters_in(width, HEADING_LETTER), &words)?;
@@ -157,6 +161,31 @@ fn push_names(out: &mut String, deciding: &Deciding<'_>) -> Result<(), AllocErro
     Ok(())
 }
 
+/// Returns whether a stretch has values that are not drawn and that equal a value that was read.
+fn has_fitting(segment: &LaneSegment) -> bool {
+    segment.parts.iter().any(
+        |part| matches!(part, LanePart::Several { fitting, .. } if *fitting > 0),
+    )
+}
+
+/// Adds the sentence on the values that are not drawn and that equal a value that was read, if there are any.
+fn push_fitting(
+    alloc: Global,
+    sentences: &mut Vec<String>,
+    scene: &Scene<'_>,
+) -> Result<(), AllocError> {
+    for lane in &scene.lanes {
+        if lane.segments.iter().any(has_fitting) {
+            sentences.push(String::from_str(
+                alloc,
+                "Of values that are not drawn, those as read equal a value that it read.",
+            )?)?;
+            return Ok(());
+        }
+    }
+    Ok(())
+}
+
 /// Adds the sentence on the items without a lane that determine the position of the line, if there are any.
 fn push_deciding(
     alloc: Global,
@@ -181,6 +210,7 @@ fn omissions_of(alloc: Global, scene: &Scene<'_>, width: u32) -> Result<Vec<Stri
     let mut sentences = Vec::new(alloc);
     push_unwritten(alloc, &mut sentences, scene)?;
     push_rest(alloc, &mut sentences, scene)?;
+    push_fitting(alloc, &mut sentences, scene)?;
     push_deciding(alloc, &mut sentences, &scene.deciding)?;
     lines_of(alloc, &sentences, MAX_SENTENCES, width)
 }

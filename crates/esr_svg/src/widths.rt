@@ -20,7 +20,12 @@ fn widest_value(values: &[i64]) -> usize {
 
 /// Returns the letters of the second line on the reads of an item.
 fn more_letters(read: &LaneReads) -> usize {
-    number_letters(read.count).saturating_add(9)
+    let more = read.values.len().saturating_sub(1);
+    if more > 1 {
+        number_letters(more as u64).saturating_add(16)
+    } else {
+        number_letters(read.count).saturating_add(6)
+    }
 }
 
 /// Returns the width of the text in front of a lane.

@@ -205,14 +205,46 @@ pub fn sum_of(arrows: &[Arrow<'_>]) -> u64 {
     sum
 }
 
-/// Returns the first charges of the ranking, at most `upper_bound`, in the order of their entries.
+/// Returns the index of the greatest charge by an update, of equal ones the first.
+fn greatest_by(arrows: &[Arrow<'_>], update: TxnId) -> Option<usize> {
+    let mut found = None;
+    let mut greatest = 0u64;
+    for (index, arrow) in arrows.iter().enumerate() {
+        if arrow.update == update && arrow.amount > greatest {
+            found = Some(index);
+            greatest = arrow.amount;
+        }
+    }
+    found
+}
+
+/// Adds the index of the greatest charge by each of these updates, unless it is there.
+fn push_greatest_by(
+    kept: &mut Vec<usize>,
+    arrows: &[Arrow<'_>],
+    updates: &[TxnId],
+) -> Result<(), AllocError> {
+    for update in updates {
+        if let Some(index) = greatest_by(arrows, *update)
+            && !kept.contains(&index)
+        {
+            kept.push(index)?;
+        }
+    }
+    Ok(())
+}
+
+/// Returns the first charges of the ranking, at most `upper_bound`, and the greatest one by each of these updates, in the
+/// order of their entries.
 pub fn greatest<'a>(
     alloc: Global,
     arrows: &[Arrow<'a>],
     upper_bound: usize,
+    updates: &[TxnId],
 ) -> Result<Vec<Arrow<'a>>, AllocError> {
     let mut kept = ranking(alloc, arrows)?;
     kept.truncate(upper_bound);
+    push_greatest_by(&mut kept, arrows, updates)?;
     kept.sort_unstable();
     let mut greatest = Vec::new(alloc);
     for index in &kept {

@@ -1,14 +1,17 @@
 //! Fits a timeline into the maximum width, or into a few bands of it. It is built with all events, and as long as it
 //! does not fit, with fewer: first without the labels of events on which no charge depends, then without these events,
-//! then with the first charges of a ranking only (`causes`) and as many of the reads that are off. One band is tried first,
-//! unless labels would be omitted.
+//! then with the first charges of a ranking only (`causes`) and as many of the reads that are off. The updates that were
+//! charged most keep their lanes and the greatest charge of each. One band is tried first, unless labels would be omitted.
 
 use crate::causes::Causes;
 use crate::charges::{
     ChargedQueries, between, charges_to, drawable, greatest, sum_of, with_exports,
 };
 use crate::farthest::farthest_read;
-use crate::lanes::{MAX_LANES, concerned, farthest, first_begun, lane_at, lanes_of, nearest_to};
+use crate::lanes::{
+    MAX_CHARGERS, MAX_LANES, chargers, concerned, farthest, first_begun, lane_at, lanes_of,
+    nearest_to,
+};
 use crate::marks::{
     count_off_reads, keys_of, mark_keys, mark_query_reads, marks_of, marks_on, mistakes_on,
     omit_notes,
@@ -291,6 +294,8 @@ struct Material<'a> {
     charges: Vec<Arrow<'a>>,
     /// The cause of each read that is off, those of the farthest reads first.
     causes: Vec<TxnId>,
+    /// The updates that were charged most.
+    chargers: Vec<TxnId>,
     /// The nearest placement of the query, or of the farthest one.
     nearest: Option<Nearest<'a>>,
     /// The farthest read of that query, if that is off.
@@ -365,9 +370,10 @@ fn has_blocked(detail: Detail) -> bool {
 }
 
 impl<'a> Material<'a> {
-    /// Returns the query and the causes of this number of its farthest reads.
-    fn query_and_causes(&self, alloc: Global, reads: usize) -> Result<Vec<TxnId>, AllocError> {
+    /// Returns the query, the causes of this number of its farthest reads, and the updates that were charged most.
+    fn always_drawn(&self, alloc: Global, reads: usize) -> Result<Vec<TxnId>, AllocError> {
         let mut txns = first(&self.causes, reads).to_vec(alloc)?;
+        txns.extend_from_slice(&self.chargers)?;
         if let Some(query) = self.query {
             txns.push(query)?;
         }
@@ -395,7 +401,7 @@ impl<'a> Material<'a> {
     ) -> Result<Vec<Lane<'a>>, AllocError> {
         match detail {
             Detail::Greatest(_) => {
-                let txns = self.query_and_causes(alloc, max_off_reads(detail))?;
+                let txns = self.always_drawn(alloc, max_off_reads(detail))?;
                 lanes_in(alloc, &self.lanes, arrows, &txns)
             }
             Detail::First(count) => lanes_of_marks(alloc, &self.lanes, first(&self.marks, count)),
@@ -407,7 +413,8 @@ impl<'a> Material<'a> {
     fn arrows(&self, alloc: Global, detail: Detail) -> Result<Vec<Arrow<'a>>, AllocError> {
         let all = drawable(alloc, &self.charges)?;
         match detail {
-            Detail::Greatest(upper_bound) => greatest(alloc, &all, upper_bound),
+            Detail::Greatest(0) => greatest(alloc, &all, 0, &[]),
+            Detail::Greatest(upper_bound) => greatest(alloc, &all, upper_bound, &self.chargers),
             Detail::All | Detail::Keys | Detail::First(_) => Ok(all),
         }
     }
@@ -645,6 +652,7 @@ fn material_on<'a>(
         marks,
         charges,
         causes: Vec::new(alloc),
+        chargers: Vec::new(alloc),
         nearest: None,
         farthest: None,
     })
@@ -677,12 +685,13 @@ fn material_about<'a>(
     let lanes = lanes_about(alloc, source, query, trace, &of_reads, &all)?;
     let charges = between(alloc, &all, own, &lanes)?;
     let farthest = farthest_read(alloc, source, query, causes, trace, &all)?;
-    let nearest = nearest_to(alloc, source, query)?;
+    let nearest = nearest_to(alloc, source, query, trace)?;
     let mut material = material_on(alloc, source, Some(query), lanes, charges)?;
     if let Some(lane) = lane_at(&material.lanes, query) {
         complete_notes(source, causes, &mut material.marks, lane);
     }
     material.causes = of_reads;
+    material.chargers = chargers(alloc, trace, MAX_CHARGERS)?;
     material.farthest = farthest;
     material.nearest = nearest;
     Ok(material)
@@ -720,12 +729,12 @@ fn farthest_read_of<'a>(
     alloc: Global,
     source: Source<'a>,
     query: TxnId,
+    trace: &QueryTrace,
 ) -> Result<Option<Farthest<'a>>, AllocError> {
-    let trace = trace_of(alloc, source.history, query)?;
     let own = lanes_of(alloc, source, &[query])?;
-    let causes = Causes::of(alloc, source, query, &trace)?;
+    let causes = Causes::of(alloc, source, query, trace)?;
     let charges = charges_to(alloc, source, &causes, &own, ChargedQueries::One(query))?;
-    farthest_read(alloc, source, query, &causes, &trace, &charges)
+    farthest_read(alloc, source, query, &causes, trace, &charges)
 }
 
 /// Returns the material of a whole script with the nearest placement and the farthest read of the query with the greatest
@@ -734,8 +743,9 @@ fn material_of_whole<'a>(alloc: Global, source: Source<'a>) -> Result<Material<'
     let Some(query) = farthest(alloc, source.auditor)? else {
         return material_of_first(alloc, source);
     };
-    let nearest = nearest_to(alloc, source, query)?;
-    let farthest = farthest_read_of(alloc, source, query)?;
+    let trace = trace_of(alloc, source.history, query)?;
+    let nearest = nearest_to(alloc, source, query, &trace)?;
+    let farthest = farthest_read_of(alloc, source, query, &trace)?;
     let mut material = material_of_first(alloc, source)?;
     material.nearest = nearest;
     material.farthest = farthest;

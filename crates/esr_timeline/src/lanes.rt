@@ -7,13 +7,16 @@ use esr_history::{Entry, Refusal, Reply, TxnId};
 use esr_outcomes::{Auditor, kind_of, outcome_of};
 use esr_report::name_of_transaction;
 use esr_text::first;
-use esr_trace::{NearestPlacement, QueryTrace, relevant_updates};
+use esr_trace::{NearestPlacement, QueryTrace, off_reads, relevant_updates};
 use std::alloc::{AllocError, Global};
 
 /// The maximum number of lanes.
 pub const MAX_LANES: usize = 12;
 
-/// The maximum number of reads that are off whose causes have lanes before all other updates.
+/// The maximum number of updates that have lanes before all others, since they were charged most.
+pub const MAX_CHARGERS: usize = 3;
+
+/// The maximum number of reads that are off whose causes have lanes before the other updates.
 const MAX_CAUSES: usize = 6;
 
 /// With at most this many lanes, the writers of the values that were read have lanes too.
@@ -92,9 +95,18 @@ fn explaining(alloc: Global, arrows: &[Arrow<'_>]) -> Result<Vec<TxnId>, AllocEr
     Ok(updates)
 }
 
-/// Returns the query and the transactions that concern it, in the order of their begins: the causes of the reads that are
-/// off, the updates whose charges explain them, the other updates that it was charged by, the transactions that blocked it
-/// or that it blocked, and the writers of the values that it read.
+/// Returns the updates that were charged most, at most `upper_bound`.
+pub fn chargers(
+    alloc: Global,
+    trace: &QueryTrace,
+    upper_bound: usize,
+) -> Result<Vec<TxnId>, AllocError> {
+    relevant_updates(alloc, trace, &[], &[], upper_bound)
+}
+
+/// Returns the query and the transactions that concern it, in the order of their begins: the updates that were charged most,
+/// the causes of the reads that are off, the updates whose charges explain them, the other updates that it was charged by,
+/// the transactions that blocked it or that it blocked, and the writers of the values that it read.
 pub fn concerned(
     alloc: Global,
     source: Source<'_>,
@@ -103,14 +115,10 @@ pub fn concerned(
     causes: &[TxnId],
     arrows: &[Arrow<'_>],
 ) -> Result<Vec<TxnId>, AllocError> {
+    let mut due = chargers(alloc, trace, MAX_CHARGERS)?;
+    due.extend_from_slice(first(causes, MAX_CAUSES))?;
     let explaining = explaining(alloc, arrows)?;
-    let mut chosen = relevant_updates(
-        alloc,
-        trace,
-        first(causes, MAX_CAUSES),
-        &explaining,
-        MAX_LANES - 1,
-    )?;
+    let mut chosen = relevant_updates(alloc, trace, &due, &explaining, MAX_LANES - 1)?;
     chosen.push(query)?;
     push_opponents(&mut chosen, source, query)?;
     push_writers(&mut chosen, trace)?;
@@ -207,13 +215,16 @@ pub fn nearest_to<'a>(
     alloc: Global,
     source: Source<'a>,
     query: TxnId,
+    trace: &QueryTrace,
 ) -> Result<Option<Nearest<'a>>, AllocError> {
     match source.auditor.summary(alloc, query)? {
         Some(audit) => {
             let last = last_of(source, &audit.before);
+            let placement = NearestPlacement::after(alloc, source.history, &audit.before)?;
             Ok(Some(Nearest {
                 query: name_of_transaction(source.transactions, query),
-                is_exact: audit.distance == 0,
+                distance: audit.distance,
+                off_reads: off_reads(source.history, &placement, trace),
                 updates: audit.before.len() as u64,
                 committed: count_committed(source, query),
                 last: last.map_or("", |(txn, _)| name_of_transaction(source.transactions, txn)),

@@ -362,17 +362,6 @@ fn mark_at(marks: &mut [Mark<'_>], index: usize) {
     }
 }
 
-/// Returns the distance of a read from the value in the nearest placement, and 0 of any other event.
-fn distance_of(mark: &Mark<'_>) -> u64 {
-    match mark.action {
-        Action::Read {
-            value,
-            nearest: Some(there),
-        } => value.abs_diff(there).saturating_mul(mark.weight),
-        _ => 0,
-    }
-}
-
 /// Returns the indices of the reads that are off, those with the greatest distances first, at most `upper_bound`.
 fn farthest_reads(
     alloc: Global,
@@ -381,7 +370,7 @@ fn farthest_reads(
 ) -> Result<Vec<usize>, AllocError> {
     let mut ranks = Vec::new(alloc);
     for (index, mark) in marks.iter().enumerate() {
-        let distance = distance_of(mark);
+        let distance = mark.distance();
         if distance > 0 {
             ranks.push((u64::MAX.saturating_sub(distance), index))?;
         }
@@ -412,7 +401,7 @@ fn mark_off_reads(
 pub fn count_off_reads(marks: &[Mark<'_>]) -> usize {
     let mut count = 0usize;
     for mark in marks {
-        if distance_of(mark) > 0 {
+        if mark.distance() > 0 {
             count = count.saturating_add(1);
         }
     }

@@ -1,12 +1,14 @@
-//! The lines above the lanes: the heading, the lines with errors, the nearest placement, the farthest read, the steps that
-//! were refused, what is not drawn, and the weights.
+//! The lines above the lanes: the heading, the lines with errors, the nearest placement, what the distance is the sum of,
+//! which states a strict query excludes, the farthest read, the steps that were refused, what is not drawn, and the weights.
 
 use crate::fit::Picture;
 use esr_chart::{
-    Arrow, Band, Farthest, MARGIN, Mistakes, Nearest, Order, Reason, Rest, Scene,
+    Arrow, Band, Farthest, Lane, MARGIN, Mistakes, Nearest, Order, Reason, Rest, Scene,
     push_heading_words,
 };
+use esr_outcomes::TxnKind;
 use esr_text::{first, push_count, push_number, wrap};
+use esr_trace::push_summands;
 use std::alloc::{AllocError, Global};
 
 /// The width of a letter of a sentence, and of the heading.
@@ -77,7 +79,7 @@ fn push_nearest(out: &mut String, nearest: Option<Nearest<'_>>) -> Result<(), Al
         return Ok(());
     };
     let query = nearest.query;
-    if nearest.is_exact {
+    if nearest.distance == 0 {
         write!(out, "All reads of {query} agree with one state: ")?;
     } else {
         write!(
@@ -87,6 +89,40 @@ fn push_nearest(out: &mut String, nearest: Option<Nearest<'_>>) -> Result<(), Al
     }
     push_state(out, nearest)?;
     out.push('.')
+}
+
+/// Appends what the distance of a query is the sum of, or nothing if it is exact.
+fn push_distance(out: &mut String, nearest: Option<Nearest<'_>>) -> Result<(), AllocError> {
+    let Some(nearest) = nearest else {
+        return Ok(());
+    };
+    if nearest.distance == 0 {
+        return Ok(());
+    }
+    let query = nearest.query;
+    write!(out, "{query} is off by ")?;
+    push_number(out, nearest.distance)?;
+    push_summands(out, nearest.off_reads)?;
+    out.push('.')
+}
+
+/// Returns whether a lane is that of a strict query of this name.
+fn is_strict(lane: &Lane<'_>, query: &str) -> bool {
+    lane.kind == TxnKind::StrictQuery && lane.name == query
+}
+
+/// Appends which states a strict query excludes, or nothing if the query is not strict.
+fn push_excluded(out: &mut String, scene: &Scene<'_>) -> Result<(), AllocError> {
+    let Some(Nearest { query, .. }) = scene.nearest else {
+        return Ok(());
+    };
+    if scene.lanes.iter().any(|lane| is_strict(lane, query)) {
+        return write!(
+            out,
+            "{query} is strict: states without an update that committed before {query} began are excluded."
+        );
+    }
+    Ok(())
 }
 
 /// Appends the sentence on the entries that were refused for a mistake, or nothing if there are none.
@@ -208,37 +244,84 @@ fn push_rest(out: &mut String, rest: Rest) -> Result<(), AllocError> {
 fn order_sentence(order: Order) -> &'static str {
     match order {
         Order::Explaining => {
-            " Drawn first: the charges that explain the reads in red, the farthest first."
+            " Drawn first: the charges that explain the reads in red, and the largest of each update charged most."
         }
         Order::Largest => " Drawn: the largest charges.",
         Order::ByTransaction => "",
     }
 }
 
-/// Returns a charge of each item with a weight, of the charges that are drawn.
-fn weighted<'a>(alloc: Global, arrows: &[Arrow<'a>]) -> Result<Vec<Arrow<'a>>, AllocError> {
-    let mut weighted: Vec<Arrow<'a>> = Vec::new(alloc);
-    for arrow in arrows {
-        if arrow.weight > 1 && !weighted.iter().any(|other| other.item == arrow.item) {
-            weighted.push(*arrow)?;
-        }
+/// Appends what a charge for several reads is, or nothing if there is none.
+fn push_repeats(out: &mut String, arrows: &[Arrow<'_>]) -> Result<(), AllocError> {
+    if arrows.iter().any(|arrow| arrow.reads() > 1) {
+        return out.push_str(
+            "A charge for several reads of an item is the difference times their number.",
+        );
     }
-    Ok(weighted)
+    Ok(())
 }
 
-/// Appends a sentence with the weights of the items of these charges, or nothing if there are none.
-fn push_weights(out: &mut String, weighted: &[Arrow<'_>]) -> Result<(), AllocError> {
-    let mut joint = "A charge is a difference times the weight of its item: ";
-    for arrow in first(weighted, MAX_WEIGHTS) {
-        let item = arrow.item;
+/// An item with its weight.
+#[derive(Clone, Copy)]
+struct Weight<'a> {
+    item: &'a str,
+    weight: u64,
+}
+
+/// Adds an item, if its weight is above 1 and it is not there yet.
+fn add_weight<'a>(
+    weights: &mut Vec<Weight<'a>>,
+    item: &'a str,
+    weight: u64,
+) -> Result<(), AllocError> {
+    if weight > 1 && !weights.iter().any(|other| other.item == item) {
+        weights.push(Weight { item, weight })?;
+    }
+    Ok(())
+}
+
+/// Adds the items of the reads of a band that are off.
+fn add_weights_of_reads<'a>(
+    weights: &mut Vec<Weight<'a>>,
+    band: &Band<'a>,
+) -> Result<(), AllocError> {
+    for column in &band.columns {
+        if column.mark.distance() > 0 {
+            add_weight(weights, column.mark.item, column.mark.weight)?;
+        }
+    }
+    Ok(())
+}
+
+/// Returns the items with weights above 1 of the charges that are drawn, and of the reads that are off.
+fn weights_of<'a>(
+    alloc: Global,
+    arrows: &[Arrow<'a>],
+    bands: &[Band<'a>],
+) -> Result<Vec<Weight<'a>>, AllocError> {
+    let mut weights = Vec::new(alloc);
+    for arrow in arrows {
+        add_weight(&mut weights, arrow.item, arrow.weight)?;
+    }
+    for band in bands {
+        add_weights_of_reads(&mut weights, band)?;
+    }
+    Ok(weights)
+}
+
+/// Appends a sentence with these weights, or nothing if there are none.
+fn push_weights(out: &mut String, weights: &[Weight<'_>]) -> Result<(), AllocError> {
+    let mut joint = "Charges and distances are differences times the weight of the item: ";
+    for weighted in first(weights, MAX_WEIGHTS) {
+        let item = weighted.item;
         write!(out, "{joint}{item} ")?;
-        push_number(out, arrow.weight)?;
+        push_number(out, weighted.weight)?;
         joint = ", ";
     }
-    if weighted.len() > MAX_WEIGHTS {
+    if weights.len() > MAX_WEIGHTS {
         out.push_str(" and others")?;
     }
-    if !weighted.is_empty() {
+    if !weights.is_empty() {
         out.push('.')?;
     }
     Ok(())
@@ -251,7 +334,14 @@ fn has_unlabelled(band: &Band<'_>) -> bool {
         .any(|column| !column.has_label && !column.mark.item.is_empty())
 }
 
-/// Appends what is not drawn, which charges are drawn first, and what labels are left out.
+/// Returns whether a step is missing between two columns of a band.
+fn has_gap(band: &Band<'_>) -> bool {
+    let count = band.columns.len();
+    let places = band.end_place().saturating_sub(band.first_place());
+    places > count
+}
+
+/// Appends what is not drawn, which charges are drawn first, what labels are left out, and that the axis has gaps.
 fn push_omissions(
     out: &mut String,
     scene: &Scene<'_>,
@@ -263,6 +353,10 @@ fn push_omissions(
     }
     if bands.iter().any(has_unlabelled) {
         out.push_str(" Reads and writes without a label made none of these charges.")?;
+    }
+    if bands.iter().any(has_gap) {
+        out.push_str(if out.is_empty() { "" } else { " " })?;
+        out.push_str("The axis has only the steps that are drawn.")?;
     }
     Ok(())
 }
@@ -334,6 +428,12 @@ fn push_sentences(
     push_nearest(&mut words, scene.nearest)?;
     push_lines(alloc, lines, LineClass::Sentence, &words, letters)?;
     words.clear();
+    push_distance(&mut words, scene.nearest)?;
+    push_lines(alloc, lines, LineClass::Sentence, &words, letters)?;
+    words.clear();
+    push_excluded(&mut words, scene)?;
+    push_lines(alloc, lines, LineClass::Sentence, &words, letters)?;
+    words.clear();
     push_farthest(&mut words, scene.farthest)?;
     push_lines(alloc, lines, LineClass::Sentence, &words, letters)?;
     words.clear();
@@ -343,7 +443,10 @@ fn push_sentences(
     push_omissions(&mut words, scene, bands)?;
     push_lines(alloc, lines, LineClass::Sentence, &words, letters)?;
     words.clear();
-    push_weights(&mut words, &weighted(alloc, &scene.arrows)?)?;
+    push_repeats(&mut words, &scene.arrows)?;
+    push_lines(alloc, lines, LineClass::Sentence, &words, letters)?;
+    words.clear();
+    push_weights(&mut words, &weights_of(alloc, &scene.arrows, bands)?)?;
     push_lines(alloc, lines, LineClass::Sentence, &words, letters)
 }
 

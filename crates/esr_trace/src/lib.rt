@@ -16,7 +16,10 @@ mod traces;
 
 pub use part::Part;
 pub use relevance::{NearestPlacement, relevant_updates};
-pub use sentences::{push_nearest_moment, push_strict, push_verdict, sentences_of};
+pub use sentences::{
+    OffReads, off_reads, push_nearest_moment, push_strict, push_summands, push_verdict,
+    sentences_of,
+};
 pub use subject::Audited;
 pub use sum_errors::sum_error;
 pub use text::{MAX_NAMES, outcome_words, push_names, push_rest};

@@ -2,13 +2,15 @@
 //! the nearest moment, the charges and the updates charged, those of them that are in no picture, and the updates that a
 //! strict query had to follow.
 
+use crate::relevance::NearestPlacement;
 use crate::subject::Audited;
 use crate::text::{MAX_NAMES, push_names, push_rest};
 use crate::trace::{QueryTrace, Sum, WriterEnd};
-use esr_history::{MAX_LIMIT, TxnId};
+use esr_history::{History, MAX_LIMIT, TxnId};
+use esr_items::{Metric, Weighted};
 use esr_outcomes::{TxnOutcome, outcome_of};
 use esr_report::name_of_transaction;
-use esr_text::{first, push_number};
+use esr_text::{first, push_count, push_number};
 use std::alloc::{AllocError, Global};
 
 /// The maximum number of names of updates that were charged and have no box.
@@ -55,31 +57,81 @@ pub fn push_verdict(
     }
     write!(out, "What {query}")?;
     if audited.finding.distance > 0 {
-        return out.push_str(if must_follow(audited) {
-            " read was not a state that a strict report may be placed at."
-        } else {
-            " read was never a consistent state."
-        });
+        if must_follow(audited) {
+            return write!(
+                out,
+                " read was never a consistent state with all updates that committed before {query} began."
+            );
+        }
+        return out.push_str(" read was never a consistent state.");
     }
     out.push_str(" read was a consistent state, ")?;
     push_moment(out, audited, trace)?;
     out.push('.')
 }
 
-/// Appends the nearest moment, if no moment has all values that were read.
+/// The reads of a query that differ from the nearest state.
+#[derive(Clone, Copy)]
+pub struct OffReads {
+    pub count: u64,
+    /// Whether the weight of an item of them is above 1.
+    pub has_weights: bool,
+}
+
+/// Returns the reads that differ from a placement.
+pub fn off_reads(
+    history: &History<Weighted>,
+    placement: &NearestPlacement,
+    trace: &QueryTrace,
+) -> OffReads {
+    let mut reads = OffReads {
+        count: 0,
+        has_weights: false,
+    };
+    for observed in &trace.observed_reads {
+        if placement.distance(history, observed) > 0 {
+            let weight = history.metric().distance(observed.item, 0, 1);
+            reads.count = reads.count.saturating_add(observed.count);
+            reads.has_weights = reads.has_weights || weight > 1;
+        }
+    }
+    reads
+}
+
+/// Appends what a distance is the sum of: the absolute differences of these reads, each times its weight.
+pub fn push_summands(out: &mut String, reads: OffReads) -> Result<(), AllocError> {
+    if reads.count == 1 {
+        return out.push_str(if reads.has_weights {
+            " in one read, its weight included"
+        } else {
+            " in one read"
+        });
+    }
+    out.push_str(if reads.has_weights {
+        ": the sum of |value read - value there| x weight over "
+    } else {
+        ": the sum of |value read - value there| over "
+    })?;
+    push_count(out, reads.count, " read", " reads")
+}
+
+/// Appends the nearest moment, if no moment has all values that were read, and what the distance is the sum of.
 pub fn push_nearest_moment(
+    alloc: Global,
     out: &mut String,
     audited: &Audited<'_>,
     trace: &QueryTrace,
 ) -> Result<(), AllocError> {
     out.push_str(if must_follow(audited) {
-        "The nearest of these, "
+        "The nearest such state, "
     } else {
         "The nearest state, "
     })?;
     push_moment(out, audited, trace)?;
     out.push_str(", differs by ")?;
     push_number(out, audited.finding.distance)?;
+    let placement = NearestPlacement::after(alloc, audited.history, &audited.finding.before)?;
+    push_summands(out, off_reads(audited.history, &placement, trace))?;
     out.push('.')
 }
 
@@ -154,9 +206,14 @@ fn push_predecessors(
     audited: &Audited<'_>,
     seen: &[TxnId],
 ) -> Result<(), AllocError> {
-    out.push_str("It is strict, so it must be placed after ")?;
+    out.push_str("It is strict: ")?;
     push_names(out, audited.transactions, seen)?;
-    out.push_str(", which had committed before it began.")
+    out.push_str(" had committed before it began, so states without ")?;
+    out.push_str(if seen.len() == 1 {
+        "it are excluded."
+    } else {
+        "one of them are excluded."
+    })
 }
 
 /// Why an update that was charged has no box in a picture.
@@ -343,7 +400,7 @@ fn push_sentence(
     match sentence {
         Sentence::Verdict => push_verdict(out, audited, trace),
         Sentence::Nearest if audited.finding.distance == 0 => Ok(()),
-        Sentence::Nearest => push_nearest_moment(out, audited, trace),
+        Sentence::Nearest => push_nearest_moment(alloc, out, audited, trace),
         Sentence::Charge => push_charge_sentence(alloc, out, audited, trace),
         Sentence::Absent => push_all_absent(alloc, out, audited, trace),
         Sentence::Strict => push_strict(alloc, out, audited),

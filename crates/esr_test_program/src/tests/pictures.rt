@@ -26,24 +26,25 @@ pub const BANK: &str = "item checking 500\n\
         commit report\n";
 
 /// The picture of the bank, without the first line, the style and the legend.
-static BANK_DRAWN: [&str; 17] = [
+static BANK_DRAWN: [&str; 18] = [
     "<title id='report-title'>Audit of report</title>\n",
-    "<desc id='report-desc'>Distance 100, import 100. In order: [report], transfer. savings: read 1,600, off by 100 from its place. checking: read 500, as at its place.</desc>\n",
-    "<text class='h' x='20' y='28'>report: distance 100, import 100</text>\n",
+    "<desc id='report-desc'>Off by 100, charged 100. In order: [report], transfer. savings: read 1,600, off by 100 from its place. checking: read 500, as at its place.</desc>\n",
+    "<text class='h' x='20' y='28'>report: off by 100, charged 100</text>\n",
     "<text class='q' x='20' y='50'>What report read was never a consistent state.</text>\n",
-    "<text class='q' x='20' y='70'>The nearest state, before all updates, differs by 100.</text>\n",
-    "<text class='q' x='20' y='90'>Charged 100 of its limit of 200: transfer 100.</text>\n",
-    "<path class='d' d='M290 142V268'/>\n",
-    "<g><title>transfer wrote checking 400, savings 1,600; it is after the line</title><rect class='a' x='248' y='114' width='84' height='28' rx='6'/><text class='m' x='290' y='133' text-anchor='middle'>transfer</text></g>\n",
-    "<text class='m n' x='20' y='186'>savings</text><text class='m g' x='20' y='204'>read 1,600</text><rect class='j' x='20' y='211' width='96' height='6'></rect><rect class='i' x='20' y='211' width='96' height='6'><title>savings has 100 % of the distance</title></rect><path class='v' d='M140 192H286'><title>savings is 1,500, which was not read</title></path><rect class='p' x='144' y='168' width='44' height='15'/><text class='m o' x='146' y='179'>1,500</text>\n",
-    "<path class='t' d='M290 183V201'/><path class='u' d='M294 192H456'><title>savings is 1,600, as read</title></path><rect class='p' x='298' y='168' width='44' height='15'/><text class='m o' x='300' y='179'>1,600</text>\n",
-    "<text class='m n' x='20' y='262'>checking</text><text class='m g' x='20' y='280'>read 500</text><path class='u' d='M140 268H286'><title>checking is 500, as read</title></path><rect class='p' x='144' y='244' width='36' height='15'/><text class='m o' x='146' y='255'>500</text>\n",
-    "<path class='t' d='M290 259V277'/><path class='v' d='M294 268H456'><title>checking is 400, which was not read</title></path><rect class='p' x='298' y='244' width='36' height='15'/><text class='m o' x='300' y='255'>400</text>\n",
-    "<path class='w' marker-end='url(#report-tip)' d='M136 348H460'/><text class='q' x='20' y='352'>serial order</text><text class='q' x='136' y='366'>before all updates</text><text class='q' x='460' y='366' text-anchor='end'>after all of them</text>\n",
-    "<path class='l' d='M212 108V316'><title>the nearest placement of report</title></path>\n",
-    "<text class='m n' x='212' y='332' text-anchor='middle'>report</text>\n",
-    "<circle class='c' cx='212' cy='192' r='5'/><rect class='p' x='220' y='205' width='92' height='15'/><text class='m r o' x='222' y='216'>off by 100</text>\n",
-    "<rect class='p' x='220' y='281' width='60' height='15'/><text class='m g o' x='222' y='292'>as read</text>\n",
+    "<text class='q' x='20' y='70'>The nearest state, before all updates, differs by 100</text>\n",
+    "<text class='q' x='20' y='90'>in one read.</text>\n",
+    "<text class='q' x='20' y='110'>Charged 100 of its limit of 200: transfer 100.</text>\n",
+    "<path class='d' d='M290 162V288'/>\n",
+    "<g><title>transfer wrote checking 400, savings 1,600; it is after the line</title><rect class='a' x='248' y='134' width='84' height='28' rx='6'/><text class='m' x='290' y='153' text-anchor='middle'>transfer</text></g>\n",
+    "<text class='m n' x='20' y='206'>savings</text><text class='m g' x='20' y='224'>read 1,600</text><rect class='j' x='20' y='231' width='96' height='6'></rect><rect class='i' x='20' y='231' width='96' height='6'><title>savings has 100 % of the distance</title></rect><path class='v' d='M140 212H286'><title>savings is 1,500, which was not read</title></path><rect class='p' x='144' y='188' width='44' height='15'/><text class='m o' x='146' y='199'>1,500</text>\n",
+    "<path class='t' d='M290 203V221'/><path class='u' d='M294 212H456'><title>savings is 1,600, as read</title></path><rect class='p' x='298' y='188' width='44' height='15'/><text class='m o' x='300' y='199'>1,600</text>\n",
+    "<text class='m n' x='20' y='282'>checking</text><text class='m g' x='20' y='300'>read 500</text><path class='u' d='M140 288H286'><title>checking is 500, as read</title></path><rect class='p' x='144' y='264' width='36' height='15'/><text class='m o' x='146' y='275'>500</text>\n",
+    "<path class='t' d='M290 279V297'/><path class='v' d='M294 288H456'><title>checking is 400, which was not read</title></path><rect class='p' x='298' y='264' width='36' height='15'/><text class='m o' x='300' y='275'>400</text>\n",
+    "<path class='w' marker-end='url(#report-tip)' d='M136 368H460'/><text class='q' x='20' y='372'>serial order</text><text class='q' x='136' y='386'>before all updates</text><text class='q' x='460' y='386' text-anchor='end'>after all of them</text>\n",
+    "<path class='l' d='M212 128V336'><title>the nearest placement of report</title></path>\n",
+    "<text class='m n' x='212' y='352' text-anchor='middle'>report</text>\n",
+    "<circle class='c' cx='212' cy='212' r='5'/><rect class='p' x='220' y='225' width='92' height='15'/><text class='m r o' x='222' y='236'>off by 100</text>\n",
+    "<rect class='p' x='220' y='301' width='60' height='15'/><text class='m g o' x='222' y='312'>as read</text>\n",
 ];
 
 /// An update, and a report that reads nothing.
@@ -99,9 +100,9 @@ fn little_is_drawn(rt: HostRuntime) {
     let texts = ["q read no item.</text>", "Not drawn: 1 more update.</text>"];
     has(&rt, rt.alloc(), NOTHING_READ, "q", &texts);
     let texts = [
-        "q: distance 6, import 6</text>",
+        "q: off by 6, charged 6</text>",
         ">weight 3</text>",
-        "read 7</text><text class='m g' x='20' y='220'>and 9</text>",
+        "read 7</text><text class='m g' x='20' y='240'>and 9</text>",
         ">off by 2 x 3 = 6</text>",
     ];
     has(&rt, rt.alloc(), TWICE, "q", &texts);

@@ -18,7 +18,7 @@ use std::str::from_utf8;
 /// The whole prose about the report of the bank.
 static BANK_TOLD: &str = "\
 What report read was never a consistent state. The nearest state, before all
-updates, differs by 100.
+updates, differs by 100 in one read.
 
 report is a query that began in line 3 and committed in line 10.
 
@@ -107,8 +107,8 @@ fn a_report_of_the_bank_is_described(rt: HostRuntime) {
 fn outcomes_of_values_and_queries_are_described(rt: HostRuntime) {
     let alloc = rt.alloc();
     let report = [
-        "What report read was not a state that a strict report may be placed at. The\nnearest",
-        "It is strict, so it must be\nplaced after morning, which had committed before it began.",
+        "What report read was never a consistent state with all updates that committed\nbefore report began. The nearest such state, ",
+        "had committed before it began, so states without it are excluded.",
         "report is a strict query that began in line 8 and committed in line 21.",
         "  - till 90, in line 13, which evening had written but not committed; it aborted\n    later, in line 19\n",
         "; a difference of gold counts 3 times",
