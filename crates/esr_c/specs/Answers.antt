@@ -23,8 +23,8 @@ use Rattle.esr_engine.specs.ForUpdate.{after_for_update, no_pair, reply_for_upda
 use Rattle.esr_engine.specs.Capacity.{is_full, taken}
 use Rattle.esr_engine.specs.Carrying.{carried_in}
 use Rattle.esr_engine.specs.declared.account.Account.{Account}
-use Rattle.esr_engine.specs.declared.account.TxnStatus.{TxnStatus}
-use Rattle.esr_engine.specs.declared.account.TxnStatus.TheVariants as txn_status
+use Rattle.esr_history.specs.declared.event.TxnOutcome.{TxnOutcome}
+use Rattle.esr_history.specs.declared.event.TxnOutcome.TheVariants as outcome
 use Rattle.esr_engine.specs.declared.carrying.CarriedTxn.{CarriedTxn}
 use Rattle.esr_cert.specs.Certificate.{Certificate}
 use Rattle.esr_cert.specs.Views.{certificate_of}
@@ -181,14 +181,14 @@ pub record IsForUpdateCall (t : TxnId) (x : ItemId) (old new : Option Schedule) 
   pub err : status ≢ 0 → (after ≡ before) × IsPartly old new t x
   pub kept : status ≡ 12 → new ≡ old
 
--- the status of a transaction, and its account
-abbrev pub txn_status_number : TxnStatus → ℕ
-txn_status_number txn_status.Active = 0
-txn_status_number txn_status.Committed = 4
-txn_status_number txn_status.Aborted = 5
+-- the number of a transaction's outcome, and its account
+abbrev pub outcome_number : TxnOutcome → ℕ
+outcome_number outcome.Active = 0
+outcome_number outcome.Committed = 4
+outcome_number outcome.Aborted = 5
 
 abbrev pub account_fields : Account → EsrAccount
-account_fields a = record { query = is_query_kind a.kind; txn_status = txn_status_number a.txn_status; limit = a.limit; charged = a.charged }
+account_fields a = record { query = is_query_kind a.kind; txn_status = outcome_number a.outcome; limit = a.limit; charged = a.charged }
 
 abbrev pub IsAccount : Schedule → ℕ → EsrAccount → Type 0
 IsAccount h t a = Some a ≡ option_map account_fields (account_of weighted h t)

@@ -3,10 +3,10 @@
 ghost use Rattle.std.specs.Prelude.{◌≡◌, ◌≢◌, ◌↔◌, ◌⊎◌, false};
 ghost use Rattle.esr_history.specs.Events.{is_begun};
 ghost use Rattle.esr_history.specs.Machine.{accepted_in};
-ghost use Rattle.esr_c.specs.Answers.{IsAccount, account_fields, txn_status_number};
+ghost use Rattle.esr_c.specs.Answers.{IsAccount, account_fields, outcome_number};
 
 use crate::engine::Status;
-use esr_engine::{Account, BeginKind, EmbeddedEngine, TxnStatus};
+use esr_engine::{Account, BeginKind, EmbeddedEngine, TxnOutcome};
 use esr_history::TxnId;
 
 /// An account: whether it is a query's, its status (0 active, 4 committed, 5 aborted), its limit, and the charges to
@@ -20,13 +20,14 @@ pub struct EsrAccount {
     pub charged: u64,
 }
 
-fn txn_status_number(txn_status: TxnStatus) -> u32
-    ensures { result ≡ txn_status_number txn_status }
+/// Returns the number of an outcome in C.
+fn outcome_number(outcome: TxnOutcome) -> u32
+    ensures { result ≡ outcome_number outcome }
 {
-    match txn_status {
-        TxnStatus::Active => 0,
-        TxnStatus::Committed => 4,
-        TxnStatus::Aborted => 5,
+    match outcome {
+        TxnOutcome::Active => 0,
+        TxnOutcome::Committed => 4,
+        TxnOutcome::Aborted => 5,
     }
 }
 
@@ -36,7 +37,7 @@ fn fields(account: Account) -> EsrAccount
 {
     EsrAccount {
         query: matches!(account.kind, BeginKind::Query),
-        txn_status: txn_status_number(account.txn_status),
+        txn_status: outcome_number(account.outcome),
         limit: account.limit,
         charged: account.charged,
     }

@@ -11,7 +11,7 @@ use Rattle.esr_history.specs.declared.event.Reply.{Reply}
 use Rattle.esr_base.specs.declared.numbers.TxnId.{TxnId}
 use Rattle.esr_session.specs.declared.receipt.Receipt.{Receipt}
 use Rattle.esr_session.specs.Receipts.{is_blocked}
-use Rattle.esr_plan.specs.declared.call.BeginKind.TheVariants as kind
+use Rattle.esr_history.specs.declared.event.TxnKind.TheVariants as kind
 use Rattle.esr_plan.specs.declared.call.Call.{Call}
 use Rattle.esr_plan.specs.declared.call.Call.TheVariants as call
 use Rattle.esr_drive.specs.Runs.{IsBlockRun, IsUnderWay, next_event}

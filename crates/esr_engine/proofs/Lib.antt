@@ -4,7 +4,7 @@
 pub mod Active
 pub mod Ends
 pub mod Stepped
-pub mod Statuses
+pub mod Accounts
 pub mod Locking
 pub mod RenewalLaws
 pub mod Reports

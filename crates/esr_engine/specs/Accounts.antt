@@ -1,15 +1,9 @@
 -- The account of one transaction in a history.
-use Rattle.std.specs.Prelude.{ℕ, Bool, true, false, List, Option, option_map, if◌then◌else◌}
-use Rattle.esr_history.specs.declared.event.Event.{Event}
-use Rattle.esr_history.specs.Events.{BeginRecord, kind_of, begin_record, is_active, is_committed}
+use Rattle.std.specs.Prelude.{ℕ, Bool, true, false, Option, option_map}
+use Rattle.esr_history.specs.Events.{BeginRecord, kind_of, begin_record}
+use Rattle.esr_history.specs.Outcomes.{outcome_of}
 use Rattle.esr_history.specs.Machine.{DistanceFunction, Schedule, accepted_in, charges_in, import_in, export_in}
 use Rattle.esr_engine.specs.declared.account.Account.{Account}
-use Rattle.esr_engine.specs.declared.account.TxnStatus.{TxnStatus}
-use Rattle.esr_engine.specs.declared.account.TxnStatus.TheVariants.{Active, Committed, Aborted}
-
--- whether it is active, and else how it ended
-abbrev pub status_of : List Event → ℕ → TxnStatus
-status_of events t = if is_active events t then Active else (if is_committed events t then Committed else Aborted)
 
 -- the amount that a query has imported, or an update exported
 abbrev pub charged_to : DistanceFunction → Schedule → Bool → ℕ → ℕ
@@ -22,7 +16,7 @@ account_from d h t b = record {
   kind = kind_of b.query;
   limit = b.limit;
   charged = charged_to d h b.query t;
-  txn_status = status_of (accepted_in h) t;
+  outcome = outcome_of (accepted_in h) t;
 }
 
 -- the account of a transaction, if it has begun

@@ -1,32 +1,23 @@
-//! The account of a transaction: its kind and limit, the amount charged so far, and its status.
+//! The account of a transaction: its kind and limit, the amount charged so far, and its outcome.
 
-ghost use Rattle.std.specs.Prelude.{◌≡◌, is_some};
+ghost use Rattle.std.specs.Prelude.{◌≡◌};
 ghost use Rattle.esr_items.specs.Weights.{weighted};
 ghost use Rattle.esr_history.specs.Events.{kind_of};
 ghost use Rattle.esr_history.specs.ReportBounds.{ImportBoundsActive};
 ghost use Rattle.esr_engine.specs.Accounts.{account_of, charged_to};
-ghost use Rattle.esr_engine.specs.Statuses.{status_at};
-ghost use Rattle.esr_order.specs.Scans.{commit_in};
 
 use crate::engine::EmbeddedEngine;
-use esr_history::{BeginKind, Entry, Event, Log, TxnId};
+use esr_history::{BeginKind, TxnId, TxnOutcome};
+use esr_order::outcome_of;
 
-/// Whether a transaction is active, and else how it ended.
-#[derive(Clone, Copy, PartialEq, Eq, Debug)]
-pub enum TxnStatus {
-    Active,
-    Committed,
-    Aborted,
-}
-
-/// The amount that a query has imported so far, or an update exported, with its limit, and its status. The values that
+/// The amount that a query has imported so far, or an update exported, with its limit, and its outcome. The values that
 /// an active report has read may be shown with it: they are off by at most the amount charged.
 #[derive(Clone, Copy, PartialEq, Eq, Debug)]
 pub struct Account {
     pub kind: BeginKind,
     pub limit: u64,
     pub charged: u64,
-    pub txn_status: TxnStatus,
+    pub outcome: TxnOutcome,
 }
 
 fn kind_of(query: bool) -> BeginKind
@@ -36,24 +27,6 @@ fn kind_of(query: bool) -> BeginKind
         BeginKind::Query
     } else {
         BeginKind::Update
-    }
-}
-
-/// Returns whether an entry is an accepted commit.
-fn is_commit(entry: Entry) -> bool
-    ensures { result ≡ is_some (commit_in entry) }
-{
-    !entry.is_refused() && matches!(entry.event, Event::Commit { txn: _ })
-}
-
-/// Returns the status of a transaction, given the index of its end, if it has ended.
-fn status_at(log: &Log, end: Option<u64>) -> TxnStatus
-    ensures { result ≡ status_at log.now.entries end }
-{
-    match end {
-        None => TxnStatus::Active,
-        Some(place) if log.get(place as usize).is_some_and(is_commit) => TxnStatus::Committed,
-        Some(_) => TxnStatus::Aborted,
     }
 }
 
@@ -72,7 +45,7 @@ impl EmbeddedEngine {
     /// Returns the account of a transaction, or `None` if it has not begun. The values that an active report has read
     /// so far are off by at most the amount charged, from the committed values and from any mixture of these and the
     /// current ones.
-    #[tactic(auto, using(crate::proofs::Statuses::no_account, crate::proofs::Reports::active_bounded))]
+    #[tactic(auto, using(crate::proofs::Accounts::no_account, crate::proofs::Reports::active_bounded))]
     pub fn account(&self, t: TxnId) -> Option<Account>
         ensures account { result ≡ account_of weighted self.now t.0 }
         ensures bound { ImportBoundsActive weighted self.now }
@@ -83,7 +56,7 @@ impl EmbeddedEngine {
                 kind: kind_of(facts.query),
                 limit: facts.limit,
                 charged: self.charge_of(facts.query, t),
-                txn_status: status_at(history.log(), facts.end),
+                outcome: outcome_of(history, t),
             }),
             None => None,
         }

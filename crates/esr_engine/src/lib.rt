@@ -21,8 +21,8 @@ mod for_update;
 mod opening;
 mod renewal;
 
-pub use account::{Account, TxnStatus};
+pub use account::Account;
 pub use carrying::CarriedTxn;
 pub use engine::{EmbeddedEngine, EngineCounts, EngineError};
-pub use esr_history::BeginKind;
+pub use esr_history::{BeginKind, TxnOutcome};
 pub use opening::OpenError;

@@ -3,7 +3,7 @@ use Rattle.std.specs.Prelude.{ℕ, List, Option, Some, None, option_map}
 use Rattle.std.specs.List.{enumerate_from, filter_map, flat_map}
 use Rattle.esr_plan.specs.declared.call.Call.{Call}
 use Rattle.esr_plan.specs.declared.call.Call.TheVariants as call
-use Rattle.esr_plan.specs.declared.call.BeginKind.TheVariants as kind
+use Rattle.esr_history.specs.declared.event.TxnKind.TheVariants as kind
 use Rattle.esr_explore.specs.declared.query.Query.{Query}
 
 -- a query of a plan: its name, its block, and the index of its begin in the block

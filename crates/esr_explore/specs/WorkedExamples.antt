@@ -7,7 +7,7 @@ use Rattle.esr_history.specs.declared.event.Refusal.TheVariants.{BlockedByLock, 
 use Rattle.esr_history.specs.declared.event.Reply.TheVariants.{Begun, Refused}
 use Rattle.esr_history.specs.WorkedExamples.{txn}
 use Rattle.esr_plan.specs.declared.call.Call.TheVariants as call
-use Rattle.esr_plan.specs.declared.call.BeginKind.TheVariants as kind
+use Rattle.esr_history.specs.declared.event.TxnKind.TheVariants as kind
 use Rattle.esr_explore.specs.declared.measure.Measure.TheVariants.{Import}
 use Rattle.esr_explore.specs.Columns.{median}
 use Rattle.esr_explore.specs.Queries.{all_queries, begun_at}

@@ -4,7 +4,8 @@ ghost use Rattle.std.specs.Prelude.{◌≡◌, ◌++◌, ◌∷◌, [], IfOk, On
 ghost use Rattle.std.specs.List.{filter_map};
 ghost use Rattle.esr_explore.specs.Queries.{all_queries, begun_query, queries_in, query_at, query_name};
 
-use esr_plan::{BeginKind, Call};
+use esr_history::TxnKind;
+use esr_plan::Call;
 use std::alloc::{AllocError, Global};
 
 /// A query of a plan: its name, its block, and the index of its begin among the calls of the block.
@@ -22,7 +23,7 @@ fn query_name<'a>(call: &Call<'a>) -> Option<&'a str>
     match call {
         Call::Begin {
             name,
-            kind: BeginKind::Query | BeginKind::StrictQuery,
+            kind: TxnKind::Query | TxnKind::StrictQuery,
             ..
         } => Some(name),
         _ => None,

@@ -24,7 +24,7 @@ pub use answer::{FaultyLine, fault_of};
 pub use kept_line::KeptLine;
 pub use listing::{Listing, Unlisted};
 pub use notes::Notes;
-pub use observer::{LineOutcome, NoObserver, Observer, TxnEnd, TxnSummary};
+pub use observer::{LineOutcome, NoObserver, Observer, TxnSummary};
 pub use place::{Place, Source};
 pub use reason::{Diagnosis, NumberFault, Reason, find_reason};
 pub use reporter::{ErrorReporter, NotFound, Reports, Sought};

@@ -1,8 +1,9 @@
 //! Lists all that is wrong in a script, a line for each: `FILE:LINE:COLUMN: REASON`.
 
 use crate::answer::mistake_of;
-use crate::observer::{LineOutcome, Observer, TxnEnd, TxnSummary};
+use crate::observer::{LineOutcome, Observer, TxnSummary};
 use crate::place::Source;
+use esr_history::TxnOutcome;
 use std::alloc::Global;
 use std::fmt::{Display, Write as _};
 use std::io::Write;
@@ -136,7 +137,7 @@ impl<W: Write> Observer for Listing<'_, W> {
     }
 
     fn see_transaction(&mut self, name: &str, status: TxnSummary) {
-        if status.end != TxnEnd::Active || self.failed.is_some() {
+        if status.outcome != TxnOutcome::Active || self.failed.is_some() {
             return;
         }
         let source = self.source;

@@ -3,7 +3,7 @@
 //! An observer receives the outcome of a line as data. Rejected: passing it the text of the reply, which it would have to
 //! parse again for each line.
 
-use esr_history::{Refusal, Reply};
+use esr_history::{Refusal, Reply, TxnOutcome};
 use esr_report::LineError;
 
 /// The outcome of a line of a script.
@@ -37,19 +37,11 @@ impl LineOutcome {
     }
 }
 
-/// Whether and how a transaction ended.
-#[derive(Clone, Copy, PartialEq, Eq)]
-pub enum TxnEnd {
-    Active,
-    Committed,
-    Aborted,
-}
-
-/// The kind and the status of a transaction.
+/// The kind and the outcome of a transaction.
 #[derive(Clone, Copy)]
 pub struct TxnSummary {
     pub is_query: bool,
-    pub end: TxnEnd,
+    pub outcome: TxnOutcome,
 }
 
 /// Observes the lines of a script while they are executed. Its only promise is to return.

@@ -7,8 +7,9 @@
 
 use crate::answer::fault_of;
 use crate::notes::Notes;
-use crate::observer::{LineOutcome, Observer, TxnEnd, TxnSummary};
+use crate::observer::{LineOutcome, Observer, TxnSummary};
 use crate::place::Source;
+use esr_history::TxnOutcome;
 use std::alloc::{AllocError, Global};
 use std::fmt;
 
@@ -48,7 +49,7 @@ impl<'a> Sought<'a> {
     fn accepts(self, status: TxnSummary) -> bool {
         match self {
             Sought::Nothing => false,
-            Sought::CommittedQuery(_) => status.is_query && status.end == TxnEnd::Committed,
+            Sought::CommittedQuery(_) => status.is_query && status.outcome == TxnOutcome::Committed,
             Sought::Query(_) => status.is_query,
             Sought::Transaction(_) => true,
         }
@@ -291,19 +292,19 @@ fn reason_of(status: Option<TxnSummary>) -> &'static str {
         ) => "is an update",
         Some(
             TxnSummary {
-                end: TxnEnd::Active,
+                outcome: TxnOutcome::Active,
                 ..
             },
         ) => "is still active",
         Some(
             TxnSummary {
-                end: TxnEnd::Aborted,
+                outcome: TxnOutcome::Aborted,
                 ..
             },
         ) => "was aborted",
         Some(
             TxnSummary {
-                end: TxnEnd::Committed,
+                outcome: TxnOutcome::Committed,
                 ..
             },
         ) => "was committed",

@@ -16,6 +16,7 @@ pub mod Accessed
 pub mod Sparse
 pub mod Spans
 pub mod Commits
+pub mod Ended
 pub mod Settled
 pub mod Rowed
 pub mod Indexes

@@ -27,4 +27,4 @@ pub use laws::{
 pub use links::Links;
 pub use order::{Order, OrderError};
 pub use read_values::{distance_to, empty_lists};
-pub use scan::{committed, count_must, is_committed_query, updates_before};
+pub use scan::{committed, count_must, is_committed_query, outcome_of, updates_before};

@@ -1,5 +1,5 @@
-//! Finds transactions by a history's links: those that committed, those that committed before a query, and those that a
-//! strict query must have seen.
+//! Finds transactions by a history's links: their outcomes, those that committed, those that committed before a query, and
+//! those that a strict query must have seen.
 
 ghost use Rattle.std.specs.Prelude.{◌≡◌, ◌++◌, ◌∷◌, [], ◌==◌, IfOk, OnOk, OnErr, slice_get, length, map, filter, count_by};
 ghost use Rattle.std.specs.List.{filter_map, before_first};
@@ -7,10 +7,11 @@ ghost use Rattle.std.specs.List.Sorted.{IsStrictlyIncreasing};
 ghost use Rattle.esr_history.specs.Events.{is_update};
 ghost use Rattle.esr_history.specs.Machine.{accepted_in};
 ghost use Rattle.esr_history.specs.Operations.{commit_order};
+ghost use Rattle.esr_history.specs.Outcomes.{outcome_of};
 ghost use Rattle.esr_history.specs.Queries.{is_committed_query, updates_committed_before, must};
 ghost use Rattle.esr_order.specs.Scans.{commit_in, is_commit_at, has_ended_before, end_in, AreEnds};
 
-use esr_history::{Entry, Event, History, Log, TxnId};
+use esr_history::{Entry, Event, History, Log, TxnId, TxnOutcome};
 use esr_items::Metric;
 use std::alloc::{AllocError, Global};
 
@@ -102,6 +103,23 @@ fn is_commit_at(log: &Log, place: Option<u64>) -> bool
         Some(i) => log
             .get(i as usize)
             .is_some_and(|entry| committer_of(entry).is_some()),
+    }
+}
+
+/// Returns the outcome of a transaction. A transaction that has not begun counts as active.
+pub fn outcome_of<M: Metric>(history: &History<M>, t: TxnId) -> TxnOutcome
+    ensures { result ≡ outcome_of (accepted_in history.now.schedule) t.0 }
+{
+    let log = history.log();
+    let Some(facts) = history.facts(t) else {
+        return TxnOutcome::Active;
+    };
+    if is_commit_at(log, facts.end) {
+        TxnOutcome::Committed
+    } else if facts.end.is_some() {
+        TxnOutcome::Aborted
+    } else {
+        TxnOutcome::Active
     }
 }
 

@@ -1,4 +1,3 @@
--- The outcomes of transactions, what audits find, and the values after accesses.
+-- What audits find, and the values after accesses.
 
 pub mod Accessed
-pub mod Ended

@@ -1,5 +1,5 @@
--- `Outcomes`: whether a transaction is an update or a query, whether it is active, committed or aborted, and how far off a query
--- was. `ValuesAfter`: the value of each item after the accesses of some updates.
+-- `Outcomes`: the kind of a transaction, and the distance of a query. `ValuesAfter`: the value of each item after the accesses
+-- of some updates.
 
 pub mod Outcomes
 pub mod ValuesAfter

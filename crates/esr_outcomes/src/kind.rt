@@ -3,16 +3,8 @@
 ghost use Rattle.std.specs.Prelude.{◌≡◌};
 ghost use Rattle.esr_outcomes.specs.Outcomes.{kind_of_txn};
 
-use esr_history::{History, TxnId};
+use esr_history::{History, TxnId, TxnKind};
 use esr_items::Weighted;
-
-/// The kind of a transaction.
-#[derive(Clone, Copy, PartialEq, Eq)]
-pub enum TxnKind {
-    Update,
-    Query,
-    StrictQuery,
-}
 
 /// Returns the kind of a transaction. A transaction that has not begun counts as an update.
 pub fn kind_of(history: &History<Weighted>, t: TxnId) -> TxnKind

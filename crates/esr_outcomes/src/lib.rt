@@ -7,10 +7,10 @@
 
 mod auditor;
 mod kind;
-mod outcome;
 mod values;
 
 pub use auditor::Auditor;
+pub use esr_history::{TxnKind, TxnOutcome};
 pub use esr_least::QueryAudit;
-pub use kind::{TxnKind, kind_of};
-pub use outcome::{TxnOutcome, outcome_of};
+pub use esr_order::outcome_of;
+pub use kind::kind_of;

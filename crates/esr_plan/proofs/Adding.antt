@@ -8,8 +8,8 @@ use Rattle.esr_items.specs.Values.{IsValue, is_value}
 use Rattle.esr_items.specs.Weights.{IsWeight, is_weight}
 use Rattle.esr_report.specs.Names.{position_of, is_bound}
 use Rattle.esr_grammar.specs.Command.{Command}
-use Rattle.esr_plan.specs.declared.call.BeginKind.{BeginKind}
-use Rattle.esr_plan.specs.declared.call.BeginKind.TheVariants as kind
+use Rattle.esr_history.specs.declared.event.TxnKind.{TxnKind}
+use Rattle.esr_history.specs.declared.event.TxnKind.TheVariants as kind
 use Rattle.esr_plan.specs.declared.draft.Draft.{Draft}
 use Rattle.esr_plan.specs.Calls.{begin_command, command_of, IsResolved, AreResolved, Call}
 use Rattle.esr_plan.specs.Plan.{Plan, new_name, new_names, onto_last, weight_in, weights_of, with_session, with_item, with_operation, with_begin}
@@ -103,7 +103,7 @@ operation_added d block grown call sound is more plain resolves =
           ∙ (operation_onto d.names d.values.items d.weights.items (done_in d) cur c ∙ ap (λ l. Ok (plan d.names d.values.items d.weights.items (done_in d ++ l ∷ []))) (sym (pushed block grown call more))),
     )
 
-pub begins_name : (k : BeginKind) (name : List ℕ) (limit : ℕ) → new_name (begin_command k name limit) ≡ Some name
+pub begins_name : (k : TxnKind) (name : List ℕ) (limit : ℕ) → new_name (begin_command k name limit) ≡ Some name
 begins_name kind.Update name limit = refl
 begins_name kind.Query name limit = refl
 begins_name kind.StrictQuery name limit = refl

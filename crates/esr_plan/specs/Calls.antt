@@ -5,8 +5,8 @@ use Rattle.esr_history.specs.declared.event.Event.{Event}
 use Rattle.esr_history.specs.declared.event.Event.TheVariants as event
 use Rattle.esr_history.specs.declared.event.Reply.{Reply}
 use Rattle.esr_grammar.specs.Command.{Command, begin_update, begin_query, begin_strict_query, read, write, commit, abort}
-use Rattle.esr_plan.specs.declared.call.BeginKind.{BeginKind}
-use Rattle.esr_plan.specs.declared.call.BeginKind.TheVariants as kind
+use Rattle.esr_history.specs.declared.event.TxnKind.{TxnKind}
+use Rattle.esr_history.specs.declared.event.TxnKind.TheVariants as kind
 use Rattle.esr_plan.specs.declared.call.Caller.{Caller}
 use Rattle.esr_plan.specs.declared.call.Operand.{Operand}
 pub use Rattle.esr_plan.specs.declared.call.Call.{Call}
@@ -14,12 +14,12 @@ use Rattle.esr_plan.specs.declared.call.Call.TheVariants as call
 use Rattle.esr_plan.specs.Blocks.{Answered, begins, number_in, item_called}
 
 -- the command and the event that begin a transaction of the kind
-abbrev pub begin_command : BeginKind → List ℕ → ℕ → Command
+abbrev pub begin_command : TxnKind → List ℕ → ℕ → Command
 begin_command kind.Update name limit = begin_update name limit
 begin_command kind.Query name limit = begin_query name limit
 begin_command kind.StrictQuery name limit = begin_strict_query name limit
 
-abbrev pub begin_event : BeginKind → ℕ → Event
+abbrev pub begin_event : TxnKind → ℕ → Event
 begin_event kind.Update limit = event.BeginUpdate limit
 begin_event kind.Query limit = event.BeginQuery limit false
 begin_event kind.StrictQuery limit = event.BeginQuery limit true

@@ -11,7 +11,7 @@ ghost use Rattle.esr_plan.specs.Plan.{new_name};
 ghost use Rattle.esr_plan.specs.Blocks.{number_in};
 ghost use Rattle.esr_plan.specs.Text.{subject_of};
 
-use esr_history::{Event, Reply, TxnId};
+use esr_history::{Event, Reply, TxnId, TxnKind};
 use esr_items::ItemId;
 use esr_report::ReplyNames;
 
@@ -30,20 +30,12 @@ pub struct Operand<'a> {
     pub item: ItemId,
 }
 
-/// The kind of a begin.
-#[derive(Clone, Copy)]
-pub enum BeginKind {
-    Update,
-    Query,
-    StrictQuery,
-}
-
 /// A command of a block, with its names as text of the file.
 #[derive(Clone, Copy)]
 pub enum Call<'a> {
     Begin {
         name: &'a str,
-        kind: BeginKind,
+        kind: TxnKind,
         limit: u64,
     },
     Read {
@@ -155,16 +147,16 @@ fn transaction(replies: &[Reply], caller: Caller<'_>) -> TxnId
 }
 
 /// Returns the event that begins a transaction of the kind.
-fn begin_event(kind: BeginKind, limit: u64) -> Event
+fn begin_event(kind: TxnKind, limit: u64) -> Event
     ensures { result ≡ begin_event kind limit }
 {
     match kind {
-        BeginKind::Update => Event::BeginUpdate { limit },
-        BeginKind::Query => Event::BeginQuery {
+        TxnKind::Update => Event::BeginUpdate { limit },
+        TxnKind::Query => Event::BeginQuery {
             limit,
             strict: false,
         },
-        BeginKind::StrictQuery => Event::BeginQuery {
+        TxnKind::StrictQuery => Event::BeginQuery {
             limit,
             strict: true,
         },

@@ -19,10 +19,11 @@ ghost use Rattle.esr_plan.specs.Calls.{begin_command, command_of, place_of, IsCa
 ghost use Rattle.esr_plan.specs.Blocks.{item_called};
 ghost use Rattle.esr_plan.specs.Drafts.{plan_in, current_calls, IsSound, IsPlanError};
 
-use crate::call::{BeginKind, Call, Caller, Operand};
+use crate::call::{Call, Caller, Operand};
 use crate::fault::DriveFault;
 use crate::reader::first_line;
 use esr_grammar::{Line, Parsed, parse_line};
+use esr_history::TxnKind;
 use esr_items::{ItemId, MAX_ITEMS, MAX_VALUE, MAX_WEIGHT};
 use esr_report::Names;
 use esr_session::MAX_SESSIONS;
@@ -234,7 +235,7 @@ impl<'a> Draft<'a> {
     }
 
     /// Adds the call that begins a transaction.
-    fn add_begin(&mut self, name: &'a str, kind: BeginKind, limit: u64) -> Result<(), PlanError>
+    fn add_begin(&mut self, name: &'a str, kind: TxnKind, limit: u64) -> Result<(), PlanError>
         requires sound { IsSound self.old }
         requires fits { length self.old.begun < 2 ^ 32 }
         ensures ok { OnOk result (IsSound self.new
@@ -276,10 +277,10 @@ impl<'a> Draft<'a> {
                 value,
                 weight,
             } => self.add_item(name, value, Some(weight)),
-            Line::BeginUpdate { name, limit } => self.add_begin(name, BeginKind::Update, limit),
-            Line::BeginQuery { name, limit } => self.add_begin(name, BeginKind::Query, limit),
+            Line::BeginUpdate { name, limit } => self.add_begin(name, TxnKind::Update, limit),
+            Line::BeginQuery { name, limit } => self.add_begin(name, TxnKind::Query, limit),
             Line::BeginStrictQuery { name, limit } => {
-                self.add_begin(name, BeginKind::StrictQuery, limit)
+                self.add_begin(name, TxnKind::StrictQuery, limit)
             }
             Line::Read { txn, item } => {
                 let txn = self.caller(txn);

@@ -11,7 +11,7 @@ mod reader;
 mod table;
 mod text;
 
-pub use call::{BeginKind, Call, event_of};
+pub use call::{Call, event_of};
 pub use draft::MAX_BLOCKS;
 pub use drive_plan::{DrivePlan, drive_plan_of};
 pub use fault::DriveFault;

@@ -31,10 +31,10 @@ use crate::stage::Stage;
 use esr_audit::{AuditError, Finding};
 use esr_board::Gate;
 use esr_grammar::{Line, Parsed, parse_line};
-use esr_history::{Event, Reply, TxnId};
+use esr_history::{Event, Reply, TxnId, TxnOutcome};
 use esr_items::{ItemId, MAX_ITEMS, MAX_VALUE, MAX_WEIGHT};
 use esr_least::QueryAudit;
-use esr_lint::{LineOutcome, Observer, TxnEnd, TxnSummary};
+use esr_lint::{LineOutcome, Observer, TxnSummary};
 use esr_report::{
     LineError, Names, ReplyNames, audit_line, error_line, item_line, totals_line,
     weighted_item_line,
@@ -407,7 +407,7 @@ impl Script {
             Some(
                 TxnSummary {
                     is_query: true,
-                    end: TxnEnd::Committed,
+                    outcome: TxnOutcome::Committed,
                 },
             ) => LineOutcome::NoEvent,
             _ => LineOutcome::Error(LineError::NotACommittedQuery),

@@ -23,7 +23,8 @@ use esr_core::{Machine, StepError, Totals};
 use esr_history::{Event, History, Reply, TxnId};
 use esr_items::Weighted;
 use esr_least::QueryAudit;
-use esr_lint::{TxnEnd, TxnSummary};
+use esr_lint::TxnSummary;
+use esr_order::outcome_of;
 use std::alloc::Global;
 use std::thread::Threads;
 
@@ -175,17 +176,9 @@ impl Stage {
         };
         let history = engine.history();
         let facts = history.facts(t)?;
-        let entry = facts
-            .end
-            .and_then(|place| history.log().get(place as usize));
-        let end = match entry.map(|entry| entry.event) {
-            None => TxnEnd::Active,
-            Some(Event::Abort { .. }) => TxnEnd::Aborted,
-            Some(_) => TxnEnd::Committed,
-        };
         Some(TxnSummary {
             is_query: facts.query,
-            end,
+            outcome: outcome_of(history, t),
         })
     }
 

@@ -3,10 +3,10 @@ use Rattle.std.specs.Prelude.{ℕ, List, [], ◌∷◌, ◌++◌, codes, decimal
 use Rattle.std.specs.List.{flat_map}
 use Rattle.esr_history.specs.Machine.{DistanceFunction, Schedule}
 use Rattle.esr_report.specs.Names.{name_of_transaction}
-use Rattle.esr_outcomes.specs.declared.kind.TxnKind.{TxnKind}
-use Rattle.esr_outcomes.specs.declared.kind.TxnKind.TheVariants.{Update, Query, StrictQuery}
-use Rattle.esr_outcomes.specs.declared.outcome.TxnOutcome.{TxnOutcome}
-use Rattle.esr_outcomes.specs.declared.outcome.TxnOutcome.TheVariants.{Committed, Aborted, Active}
+use Rattle.esr_history.specs.declared.event.TxnKind.{TxnKind}
+use Rattle.esr_history.specs.declared.event.TxnKind.TheVariants.{Update, Query, StrictQuery}
+use Rattle.esr_history.specs.declared.event.TxnOutcome.{TxnOutcome}
+use Rattle.esr_history.specs.declared.event.TxnOutcome.TheVariants.{Committed, Aborted, Active}
 use Rattle.esr_tables.specs.declared.rows.Row.{Row}
 use Rattle.esr_tables.specs.Rows.{rows_of}
 

@@ -7,7 +7,8 @@ use Rattle.esr_history.specs.declared.event.Refusal.TheVariants.{BlockedByLock, 
 use Rattle.esr_history.specs.Events.{txn_numbers, limit_of, is_query}
 use Rattle.esr_history.specs.Machine.{DistanceFunction, Schedule, accepted_in, charges_in, import_in, export_in}
 use Rattle.esr_history.specs.BackLinks.{txn_in, is_some_eq}
-use Rattle.esr_outcomes.specs.Outcomes.{distance_of, kind_of_txn, outcome_of}
+use Rattle.esr_history.specs.Outcomes.{outcome_of}
+use Rattle.esr_outcomes.specs.Outcomes.{distance_of, kind_of_txn}
 use Rattle.esr_tables.specs.declared.rows.Row.{Row}
 use Rattle.esr_tables.specs.declared.tallies.Tally.{Tally}
 
@@ -64,7 +65,7 @@ row_of d h t = record {
   charged = import_or_export d h t;
   left = limit_of (accepted_in h) t - import_or_export d h t;
   tally = tally_of h.entries t;
-  outcome = outcome_of h t;
+  outcome = outcome_of (accepted_in h) t;
   distance = distance_of d h t;
 }
 

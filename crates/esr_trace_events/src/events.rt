@@ -4,8 +4,9 @@
 
 use crate::charges::Charge;
 use crate::json::{push_more_number, push_more_value, push_more_word, push_word};
-use esr_history::{Entry, Event, Facts, Reply, TxnId};
+use esr_history::{Entry, Event, Facts, Reply, TxnId, TxnOutcome};
 use esr_items::ItemId;
+use esr_order::outcome_of;
 use esr_report::name_of_transaction;
 use esr_views::Recording;
 use std::alloc::AllocError;
@@ -79,13 +80,12 @@ fn push_step(out: &mut String, recording: &Recording<'_>, place: usize) -> Resul
     }
 }
 
-/// Returns how a transaction ended.
-fn outcome_of(recording: &Recording<'_>, end: Option<u64>) -> &'static str {
-    let entry = end.and_then(|place| recording.history.log().get(place as usize));
-    match entry.map(|entry| entry.event) {
-        Some(Event::Commit { .. }) => "committed",
-        Some(_) => "aborted",
-        None => "active",
+/// Returns the name of an outcome.
+fn outcome_word(outcome: TxnOutcome) -> &'static str {
+    match outcome {
+        TxnOutcome::Active => "active",
+        TxnOutcome::Committed => "committed",
+        TxnOutcome::Aborted => "aborted",
     }
 }
 
@@ -110,7 +110,8 @@ fn push_transaction(
     push_more_word(out, "kind", kind)?;
     push_more_number(out, "limit", facts.limit)?;
     push_more_number(out, "import", recording.history.import(txn))?;
-    push_more_word(out, "outcome", outcome_of(recording, facts.end))?;
+    let outcome = outcome_of(&recording.history, txn);
+    push_more_word(out, "outcome", outcome_word(outcome))?;
     out.push_str("}}")
 }
 
