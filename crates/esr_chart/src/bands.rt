@@ -38,7 +38,7 @@ fn push_drawn(out: &mut String, drawn: u64) -> Result<(), AllocError> {
     out.push_str(" drawn)")
 }
 
-/// Appends the charges of a transaction, above its lane with what is drawn of them.
+/// Appends the charges of a transaction, above its lane with the part that is drawn.
 fn push_charged(
     out: &mut String,
     lane: &Lane<'_>,

@@ -182,7 +182,7 @@ fn drawn_letters(lane: &Lane<'_>) -> usize {
     }
 }
 
-/// Returns the letters of the charges above a lane, with what is drawn of them.
+/// Returns the letters of the charges above a lane, with the part that is drawn.
 fn charged_letters_above(lane: &Lane<'_>) -> usize {
     charged_letters(lane).saturating_add(drawn_letters(lane))
 }

@@ -10,11 +10,11 @@ use std::alloc::AllocError;
 /// A row below a read.
 #[derive(Clone, Copy, PartialEq, Eq)]
 pub enum Row {
-    /// `read 9`, and its writer if that has no row of its own.
+    /// `read 9`, and its writer unless that has a separate row.
     Value,
     /// `(of u1)` or `(opening)`.
     Writer,
-    /// `state 12`, and its writer if that has no row of its own.
+    /// `state 12`, and its writer unless that has a separate row.
     State,
     StateWriter,
     /// `off by 3`.
@@ -40,7 +40,7 @@ pub fn all_rows() -> &'static [Row] {
     &ROWS
 }
 
-/// Returns whether writers are below the values, and not beside them.
+/// Returns whether writers are below the values, and not in the same rows.
 fn are_writers_below(column: &Column<'_>) -> bool {
     column.is_folded || column.mark.distance() == 0
 }
@@ -114,7 +114,7 @@ fn writer_letters(writer: Option<Writer<'_>>) -> usize {
     }
 }
 
-/// Returns the letters of a value with the writer beside it, if it is there.
+/// Returns the letters of a value, with the writer if that is in the same row.
 fn value_letters(column: &Column<'_>, value: i64, writer: Option<Writer<'_>>) -> usize {
     let letters = letters_of(value);
     if are_writers_below(column) {
@@ -181,7 +181,7 @@ pub fn push_writer(out: &mut String, writer: Option<Writer<'_>>) -> Result<(), A
     }
 }
 
-/// Appends a value, and the writer beside it, if it is there.
+/// Appends a value, and the writer if that is in the same row.
 fn push_value_with(
     out: &mut String,
     column: &Column<'_>,

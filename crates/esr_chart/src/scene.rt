@@ -71,7 +71,7 @@ pub enum Cause {
 /// The writer of a value.
 #[derive(Clone, Copy, PartialEq, Eq)]
 pub enum Writer<'a> {
-    /// Nobody: it is the opening value.
+    /// None: it is the opening value.
     Opening,
     Update(&'a str),
 }

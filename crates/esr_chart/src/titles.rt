@@ -112,7 +112,7 @@ fn push_note(out: &mut String, note: Option<Note<'_>>) -> Result<(), AllocError>
     }
 }
 
-/// Returns an update as a writer, or nobody if there is none.
+/// Returns an update as a writer, or the opening value if there is none.
 fn writer_of(update: Option<&str>) -> Writer<'_> {
     match update {
         Some(update) => Writer::Update(update),

@@ -71,7 +71,7 @@ fn write_kept(source: Source<'_>, placement: &NearestPlacement, item: ItemId) ->
     None
 }
 
-/// Returns an update as the writer of a value, or nobody if there is none.
+/// Returns an update as the writer of a value, or the opening value if there is none.
 fn writer_of(source: Source<'_>, update: Option<TxnId>) -> Writer<'_> {
     match update {
         Some(update) => Writer::Update(name_of_transaction(source.transactions, update)),
