@@ -1,7 +1,9 @@
 //! The bands of a timeline: lanes, charges, heads, marks and the axis, each over the ones before. The columns are placed so
 //! that no arrow crosses a label. It may pass a head that is above a lane; it has a gap there.
 
-use crate::elements::{close_text, open_centred, open_rect, open_text, push_text, push_vertical};
+use crate::elements::{
+    close_text, open_centred, open_rect, open_text, push_continued, push_text, push_vertical,
+};
 use crate::head::prefix_of;
 use crate::layout::{
     Band, Column, GAP, Layout, MARGIN, STEP_ROW, Span, TEXT_ROW, charges_at, charges_between,
@@ -9,7 +11,7 @@ use crate::layout::{
 };
 use crate::limits::push_limit;
 use crate::scene::{Arrow, Lane, Scene};
-use crate::signs::push_marks_in;
+use crate::signs::{push_marks_in, push_weight};
 use crate::titles::{kind_of, push_change, push_charge_title, push_new};
 use esr_history::MAX_LIMIT;
 use esr_outcomes::TxnOutcome;
@@ -29,12 +31,33 @@ fn push_limit_words(out: &mut String, limit: u64, y: u32) -> Result<(), AllocErr
     close_text(out)
 }
 
-/// Appends the charges of a transaction.
-fn push_charged(out: &mut String, charged: u64, x: u32, y: u32) -> Result<(), AllocError> {
-    let class = if charged > 0 { "lb ch ha" } else { "lb gy ha" };
+/// Appends how much of the charges of a transaction is drawn.
+fn push_drawn(out: &mut String, drawn: u64) -> Result<(), AllocError> {
+    out.push('(')?;
+    push_number(out, drawn)?;
+    out.push_str(" drawn)")
+}
+
+/// Appends the charges of a transaction, above its lane with the part that is drawn.
+fn push_charged(
+    out: &mut String,
+    lane: &Lane<'_>,
+    is_above: bool,
+    x: u32,
+    y: u32,
+) -> Result<(), AllocError> {
+    let class = if lane.charged > 0 {
+        "lb ch ha"
+    } else {
+        "lb gy ha"
+    };
     open_text(out, class, x, y)?;
     out.push_str("charged ")?;
-    push_number(out, charged)?;
+    push_number(out, lane.charged)?;
+    if is_above && lane.has_drawn_note() {
+        out.push(' ')?;
+        push_drawn(out, lane.drawn)?;
+    }
     close_text(out)
 }
 
@@ -53,7 +76,13 @@ fn push_head_in_front(
     let kind = kind_of(lane);
     push_text(out, "lb gy ha", MARGIN, top.saturating_add(34), kind)?;
     push_limit_words(out, lane.limit, top.saturating_add(47))?;
-    push_charged(out, lane.charged, MARGIN, top.saturating_add(60))
+    push_charged(out, lane, false, MARGIN, top.saturating_add(60))?;
+    if lane.has_drawn_note() {
+        open_text(out, "lb ch ha", MARGIN, top.saturating_add(73))?;
+        push_drawn(out, lane.drawn)?;
+        close_text(out)?;
+    }
+    Ok(())
 }
 
 /// Appends the name of a transaction above its lane, and in the band in which it begins also its kind, its limit and its
@@ -75,9 +104,9 @@ fn push_head_above(
     push_limit_words(out, lane.limit, y)?;
     if fits_one_row(lane) {
         let x = MARGIN.saturating_add(limit_width(lane)).saturating_add(GAP);
-        push_charged(out, lane.charged, x, y)
+        push_charged(out, lane, true, x, y)
     } else {
-        push_charged(out, lane.charged, MARGIN, y.saturating_add(TEXT_ROW))
+        push_charged(out, lane, true, MARGIN, y.saturating_add(TEXT_ROW))
     }
 }
 
@@ -134,6 +163,9 @@ fn push_lane(
     }
     let top = band.lane_top(number);
     push_band_rect(out, lane, span, top)?;
+    if !span.has_outcome {
+        push_continued(out, span.end.saturating_add(2), top.saturating_add(23))?;
+    }
     push_limit(out, scene, band, number, lane)
 }
 
@@ -418,6 +450,7 @@ fn push_amount_words(
     }
     out.push_str("for ")?;
     out.push_str(arrow.item)?;
+    push_weight(out, arrow.weight)?;
     close_text(out)?;
     Ok(last)
 }

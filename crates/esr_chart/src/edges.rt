@@ -1,7 +1,8 @@
 //! The right edges of the texts of a band, from which the columns get their distances.
 
 use crate::layout::{Column, GAP, MARGIN, width_of};
-use crate::scene::{Action, Arrow, Lane, Mark, Note, NotedWrite};
+use crate::reads::read_letters;
+use crate::scene::{Action, Arrow, Lane, Mark, weight_letters};
 use esr_text::{letters_of, number_letters};
 use esr_trace::outcome_words;
 use std::alloc::{AllocError, Global};
@@ -29,7 +30,7 @@ pub struct Edges {
     heads: Vec<u32>,
     /// Of the steps in each row of the axis.
     steps: Vec<u32>,
-    /// Whether reads that are off and charges have two values one below the other.
+    /// Whether the texts of charges are in narrow rows one below the other.
     is_folded: bool,
 }
 
@@ -38,58 +39,11 @@ fn half_of(letters: usize) -> u32 {
     width_of(letters).div_ceil(2)
 }
 
-/// Returns the letters of the longest row of the values of a read that is off: `1,600 not 1,500` and `off by 100`.
-fn off_letters(mark: &Mark<'_>, value: i64, there: i64, is_folded: bool) -> usize {
-    let off = number_letters(mark.distance()).saturating_add(7);
-    let there = letters_of(there).saturating_add(4);
-    let values = if is_folded {
-        letters_of(value).max(there)
-    } else {
-        letters_of(value).saturating_add(there).saturating_add(1)
-    };
-    values.max(off)
-}
-
-/// Returns the letters of the longer of `u1 wrote 1,500` and `in step 57`.
-fn write_letters(write: &NotedWrite<'_>) -> usize {
-    let wrote = write.update.len().saturating_add(letters_of(write.value));
-    let step = number_letters(write.step());
-    wrote.saturating_add(7).max(step.saturating_add(8))
-}
-
-/// Returns the letters of `u2 follows u1`, or 0 if the update follows none.
-fn follows_letters(write: &NotedWrite<'_>) -> usize {
-    match write.follows {
-        Some(charged) => write
-            .update
-            .len()
-            .saturating_add(charged.len())
-            .saturating_add(9),
-        None => 0,
-    }
-}
-
-/// Returns the letters of the longest row of the note at a mark.
-fn note_letters(mark: &Mark<'_>) -> usize {
-    match mark.note {
-        Some(Note::Wrote(write)) if mark.has_note => {
-            write_letters(&write).max(follows_letters(&write))
-        }
-        Some(Note::Wrote(write)) => follows_letters(&write),
-        // `as u1 wrote`, or `as at the start`
-        Some(Note::Equals(Some(update))) => update.len().saturating_add(9),
-        Some(Note::Equals(None)) => 15,
-        None => 0,
-    }
-}
-
 /// Returns the letters below a mark.
-fn value_letters(mark: &Mark<'_>, is_folded: bool) -> usize {
+fn value_letters(column: &Column<'_>) -> usize {
+    let mark = &column.mark;
     match mark.action {
-        Action::Read { value, nearest } => match nearest {
-            Some(there) => off_letters(mark, value, there, is_folded),
-            None => letters_of(value),
-        },
+        Action::Read { .. } => read_letters(column),
         Action::Write { value } => letters_of(value),
         Action::Blocked { times, .. } => {
             let count = if times > 1 {
@@ -106,19 +60,20 @@ fn value_letters(mark: &Mark<'_>, is_folded: bool) -> usize {
 
 /// Returns the letters above a mark.
 fn item_letters(mark: &Mark<'_>) -> usize {
-    let verb = match mark.action {
-        Action::Blocked { .. } => 6,
+    let more = match mark.action {
+        Action::Blocked { value, .. } => {
+            value.map_or(6, |value| letters_of(value).saturating_add(9))
+        }
+        Action::Read { .. } => weight_letters(mark.weight),
         _ => 0,
     };
-    mark.item.len().saturating_add(verb)
+    mark.item.len().saturating_add(more)
 }
 
 /// Returns half of the width of the labels of a column.
 fn half_label(column: &Column<'_>) -> u32 {
     if column.has_label {
-        let below = value_letters(&column.mark, column.is_folded);
-        let note = note_letters(&column.mark);
-        half_of(item_letters(&column.mark).max(below).max(note))
+        half_of(item_letters(&column.mark).max(value_letters(column)))
     } else {
         0
     }
@@ -148,10 +103,11 @@ fn change_letters(arrow: &Arrow<'_>, is_folded: bool) -> usize {
     }
 }
 
-/// Returns the letters of the amount of a charge and of its item: `+100 for savings`.
+/// Returns the letters of the amount of a charge and of its item with its weight: `+100 for savings`.
 fn amount_letters(arrow: &Arrow<'_>, is_folded: bool) -> usize {
     let amount = number_letters(arrow.amount).saturating_add(1);
-    let item = arrow.item.len().saturating_add(4);
+    let weight = weight_letters(arrow.weight);
+    let item = arrow.item.len().saturating_add(weight).saturating_add(4);
     if is_folded {
         amount.max(item)
     } else {

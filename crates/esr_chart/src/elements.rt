@@ -66,6 +66,12 @@ pub fn push_circle(out: &mut String, class: &str, x: u32, y: u32) -> Result<(), 
     write!(out, "<circle class='{class}' cx='{x}' cy='{y}' r='5'/>")
 }
 
+/// Appends a tip: a lane that continues in the next band.
+pub fn push_continued(out: &mut String, x: u32, y: u32) -> Result<(), AllocError> {
+    let top = y.saturating_sub(6);
+    write!(out, "<path class='cn' d='M{x} {top}l8 6l-8 6'/>")
+}
+
 /// Appends a square: a write.
 pub fn push_square(out: &mut String, x: u32, y: u32) -> Result<(), AllocError> {
     let left = x.saturating_sub(5);

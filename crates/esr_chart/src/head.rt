@@ -15,7 +15,8 @@ use std::alloc::AllocError;
 /// Texts: `hd` heading, `nm` name of a lane, `lb` label, `ha` with a halo, `gy` muted, `rd` off, `ch` a charge, `bl` blocked,
 /// `gn` exact. Lanes: `bu` an update, `bq` a query, `op` not ended. Marks: `mr` a read, `mo` a read that is off, `mw` a
 /// write, `mx` a blocked operation. Charges: `ar` an arrow, `er` for a read before commit, `tp` its head. Limits: `lf` the
-/// frame, `lu` the used part. Others: `gd` a guide, `pp` the background. Layouts: `ts` the element, `tw` the wide layout, `tn` the narrow one.
+/// frame, `lu` the used part. Others: `cn` a lane that continues below, `gd` a guide,
+/// `pp` the background. Layouts: `ts` the element, `tw` the wide layout, `tn` the narrow one.
 const STYLE: &str = "<style>\n\
 text{font:12px sans-serif;fill:#1f2328}\n\
 .hd{font:bold 15px Menlo,Consolas,'DejaVu Sans Mono',monospace}\n\
@@ -40,14 +41,15 @@ text{font:12px sans-serif;fill:#1f2328}\n\
 .tp{fill:#0a56a8}\n\
 .gd{stroke:#eaedf0}\n\
 .lf{fill:none;stroke:#8a949e}\n\
-.lu{fill:#9ec5e8}\n\
+.lu{fill:#3d86cf}\n\
+.cn{fill:#59636e}\n\
 .tn{display:none}\n\
 @media (max-width:560px) and (max-aspect-ratio:3/4){\n\
 .ts{width:390px;max-width:100%;height:auto;aspect-ratio:var(--ratio)}.tw{display:none}.tn{display:inline}}\n\
 @media (prefers-color-scheme:dark){\n\
 text{fill:#e6edf3}.ha{stroke:#0d1117}.gy{fill:#9aa4af}.rd{fill:#ff7b72}.ch{fill:#78b6f5}.bl{fill:#e0a83c}.gn{fill:#4cc47c}.pp{fill:#0d1117}\n\
 .bu{fill:#1d3a57;stroke:#6ea8dc}.bq{fill:#163d29;stroke:#4cc47c}.mr{fill:#0d1117;stroke:#e6edf3}.mo{fill:#0d1117;stroke:#ff7b72}.mw{fill:#e6edf3}\n\
-.mx{stroke:#e0a83c}.ar{stroke:#78b6f5}.tp{fill:#78b6f5}.gd{stroke:#1f262d}.lf{stroke:#68737f}.lu{fill:#2f5f8a}}\n\
+.mx{stroke:#e0a83c}.ar{stroke:#78b6f5}.tp{fill:#78b6f5}.gd{stroke:#1f262d}.lf{stroke:#68737f}.lu{fill:#58a6f2}.cn{fill:#9aa4af}}\n\
 </style>\n";
 
 /// The size of a layout in pixels.

@@ -8,7 +8,8 @@
 
 use crate::edges::{Edges, outcome_width, step_rows};
 use crate::limits::has_bar;
-use crate::scene::{Action, Arrow, Lane, Mark, Note};
+use crate::reads::count_more_rows;
+use crate::scene::{Action, Arrow, Lane, Mark};
 use crate::titles::kind_of;
 use esr_history::MAX_LIMIT;
 use esr_text::number_letters;
@@ -44,7 +45,7 @@ const HEAD_HEIGHT: u32 = 66;
 /// From the arrows of charges that end at a query to the next lane, if the heads are in front of the lanes.
 const ARROW_LENGTH: u32 = 17;
 
-/// From the notes of the reads of a query to its charges.
+/// From the rows of the reads of a query to its charges.
 const CHARGE_GAP: u32 = 8;
 
 /// From row to row of the texts of a lane.
@@ -72,7 +73,7 @@ pub struct Drawn<'a, 'b> {
 pub struct Spacing {
     pub has_all_labels: bool,
     pub pitch: u32,
-    /// Whether reads that are off and charges have two values one below the other.
+    /// Whether reads that are off and charges have their texts in narrow rows one below the other.
     pub is_folded: bool,
 }
 
@@ -123,8 +124,8 @@ pub struct Span {
     /// True if a charge of the band is to its transaction.
     has_charges: bool,
     is_folded: bool,
-    /// The rows of the longest note at a read of the band, with that of its distance.
-    note_rows: u32,
+    /// The rows below the first one that the reads of the band need.
+    more_rows: u32,
 }
 
 /// Columns next to each other, with the lanes of the transactions that are active there.
@@ -149,7 +150,7 @@ pub struct Layout<'a> {
     pub bands: Vec<Band<'a>>,
     /// The right edge of all lanes and their outcomes.
     pub right: u32,
-    /// False if there are more columns than the bands have, or the bands are too high.
+    /// False if there are more columns than the bands have, or the bands are too wide or too high.
     pub is_complete: bool,
 }
 
@@ -172,6 +173,20 @@ fn charged_letters(lane: &Lane<'_>) -> usize {
     number_letters(lane.charged).saturating_add(8)
 }
 
+/// Returns the letters of ` (900 drawn)`, if there is such a note.
+fn drawn_letters(lane: &Lane<'_>) -> usize {
+    if lane.has_drawn_note() {
+        number_letters(lane.drawn).saturating_add(9)
+    } else {
+        0
+    }
+}
+
+/// Returns the letters of the charges above a lane, with the part that is drawn.
+fn charged_letters_above(lane: &Lane<'_>) -> usize {
+    charged_letters(lane).saturating_add(drawn_letters(lane))
+}
+
 /// Returns the width of the name of a transaction.
 pub fn name_width(lane: &Lane<'_>) -> u32 {
     (lane.name.len().min(100) as u32).saturating_mul(NAME_LETTER)
@@ -184,13 +199,15 @@ pub fn limit_width(lane: &Lane<'_>) -> u32 {
 
 /// Returns the width of the texts in front of a lane.
 fn head_width(lane: &Lane<'_>) -> u32 {
-    let letters = limit_letters(lane).max(charged_letters(lane));
+    let letters = limit_letters(lane)
+        .max(charged_letters(lane))
+        .max(drawn_letters(lane));
     width_of(letters.max(kind_of(lane).len())).max(name_width(lane))
 }
 
 /// Returns the width of the limit and the charges above a lane, in one row.
 fn amounts_width(lane: &Lane<'_>) -> u32 {
-    let charged = width_of(charged_letters(lane));
+    let charged = width_of(charged_letters_above(lane));
     limit_width(lane)
         .saturating_add(charged)
         .saturating_add(GAP)
@@ -209,7 +226,7 @@ fn width_above(lane: &Lane<'_>) -> u32 {
     let amounts = if fits_one_row(lane) {
         amounts_width(lane)
     } else {
-        limit_width(lane).max(width_of(charged_letters(lane)))
+        limit_width(lane).max(width_of(charged_letters_above(lane)))
     };
     name.max(amounts)
 }
@@ -225,7 +242,7 @@ pub fn rows_above(lane: &Lane<'_>, has_head: bool) -> (u32, u32, u32) {
     if fits_one_row(lane) {
         return (first, MARGIN.saturating_add(amounts_width(lane)), 0);
     }
-    let charged = width_of(charged_letters(lane));
+    let charged = width_of(charged_letters_above(lane));
     (
         first,
         MARGIN.saturating_add(limit_width(lane)),
@@ -411,36 +428,16 @@ fn span_of(columns: &[Column<'_>], life: Life, left: u32, open_end: u32, is_last
         has_outcome: end.is_some() || (is_last && life.end.is_none()),
         has_charges: false,
         is_folded: columns.first().is_some_and(|column| column.is_folded),
-        note_rows: 0,
+        more_rows: 0,
     }
 }
 
-/// Returns the rows of the distance and the note at a column that is drawn.
-fn rows_of_note(column: &Column<'_>) -> u32 {
-    if !column.has_label {
-        return 0;
-    }
-    let distance = if column.mark.distance() > 0 { 1u32 } else { 0 };
-    distance.saturating_add(match column.mark.note {
-        Some(Note::Wrote(write)) => {
-            let rows = if column.mark.has_note { 2 } else { 0 };
-            if write.follows.is_some() {
-                rows + 1
-            } else {
-                rows
-            }
-        }
-        Some(Note::Equals(_)) => 1,
-        None => 0,
-    })
-}
-
-/// Returns the rows of the longest note at a read of a lane.
-fn note_rows(columns: &[Column<'_>], lane: usize) -> u32 {
+/// Returns the rows below the first one that the marks of a lane need.
+fn more_rows(columns: &[Column<'_>], lane: usize) -> u32 {
     let mut rows = 0u32;
     for column in columns {
         if column.mark.lane == lane {
-            rows = rows.max(rows_of_note(column));
+            rows = rows.max(count_more_rows(column));
         }
     }
     rows
@@ -462,13 +459,12 @@ fn body_height(lane: &Lane<'_>, span: &Span, heads: Heads) -> u32 {
         Heads::Above if span.has_charges => ARROW_GAP,
         _ => LANE_GAP,
     };
-    let bottom = if lane.is_query() {
-        span.content_bottom(has_bar(lane))
-    } else {
-        VALUES_HEIGHT
-    };
+    let bottom = span.content_bottom(has_bar(lane));
     let height = bottom.saturating_add(gap);
     match heads {
+        Heads::InFront if span.has_head && lane.has_drawn_note() => {
+            height.max(HEAD_HEIGHT + TEXT_ROW)
+        }
         Heads::InFront if span.has_head => height.max(HEAD_HEIGHT),
         _ => height,
     }
@@ -500,7 +496,7 @@ fn push_spans(
     for (lane, life) in drawn.lanes.iter().zip(lives.iter()) {
         let mut span = span_of(&band.columns, *life, band.left, open_end, is_last);
         span.has_charges = charges.iter().any(|charge| charge.to == number);
-        span.note_rows = note_rows(&band.columns, number);
+        span.more_rows = more_rows(&band.columns, number);
         band.height = place_span(&mut span, lane, band.heads, band.height);
         band.spans.push(span)?;
         number = number.saturating_add(1);
@@ -618,7 +614,8 @@ pub fn layout_of<'a>(
     let open_end = farthest.saturating_add(GAP);
     let right = fill_bands(&mut bands, drawn, &lives, open_end)?;
     let has_all = count_columns(&bands) == drawn.marks.len();
-    let is_complete = has_all && height_of(&bands) <= format.height;
+    let fits = farthest <= limit && height_of(&bands) <= format.height;
+    let is_complete = has_all && fits;
     Ok(Layout {
         bands,
         right: right.max(above),
@@ -627,10 +624,9 @@ pub fn layout_of<'a>(
 }
 
 impl Span {
-    /// Returns the height of the rows below the lane of a query that the second values of its reads and their notes take.
-    fn more_rows(&self) -> u32 {
-        let second = if self.is_folded { TEXT_ROW } else { 0 };
-        second.saturating_add(self.note_rows.saturating_mul(TEXT_ROW))
+    /// Returns the height of the rows below the first one of the marks of the lane.
+    fn more_height(&self) -> u32 {
+        self.more_rows.saturating_mul(TEXT_ROW)
     }
 
     /// Returns the height of the text of a charge: the amount with its item, and the change, each in one row or in two.
@@ -645,7 +641,7 @@ impl Span {
     /// Returns the baseline of the amount of a charge, below the upper edge of the lane. Its item and the change are on the
     /// same row and the next one, or on the next three.
     pub fn amount_row(&self) -> u32 {
-        self.more_rows().saturating_add(57 + CHARGE_GAP)
+        self.more_height().saturating_add(57 + CHARGE_GAP)
     }
 
     /// Returns the upper edge of the bar of the limit, below that of the lane.
@@ -655,7 +651,9 @@ impl Span {
         } else {
             0
         };
-        self.more_rows().saturating_add(charges).saturating_add(49)
+        self.more_height()
+            .saturating_add(charges)
+            .saturating_add(49)
     }
 
     /// Returns the end of an arrow from below, below the upper edge of the lane.
@@ -663,12 +661,12 @@ impl Span {
         self.bar_row().saturating_add(12)
     }
 
-    /// Returns the lower edge of the content below the lane of a query, which may have a bar.
+    /// Returns the lower edge of the content below the lane, which may have a bar.
     fn content_bottom(&self, has_bar: bool) -> u32 {
         if self.has_charges || has_bar {
             self.arrow_row()
         } else {
-            self.more_rows().saturating_add(VALUES_HEIGHT)
+            self.more_height().saturating_add(VALUES_HEIGHT)
         }
     }
 
@@ -691,7 +689,7 @@ impl<'a> Band<'a> {
             has_outcome: false,
             has_charges: false,
             is_folded: false,
-            note_rows: 0,
+            more_rows: 0,
         };
         self.spans.get(lane).copied().unwrap_or(none)
     }

@@ -1,7 +1,7 @@
 //! The legend: what each sign means, of those that occur, in rows as wide as the picture.
 
 use crate::bands::is_early_read;
-use crate::elements::{push_circle, push_cross, push_rect, push_square, push_text};
+use crate::elements::{push_circle, push_continued, push_cross, push_rect, push_square, push_text};
 use crate::layout::{Band, Layout, MARGIN, charges_between};
 use crate::limits::has_bar;
 use crate::scene::{Action, Lane, Scene};
@@ -19,9 +19,10 @@ enum Key {
     EarlyRead,
     Limit,
     Open,
+    Continued,
 }
 
-static KEYS: [Key; 8] = [
+static KEYS: [Key; 9] = [
     Key::Read,
     Key::Off,
     Key::Write,
@@ -30,6 +31,7 @@ static KEYS: [Key; 8] = [
     Key::EarlyRead,
     Key::Limit,
     Key::Open,
+    Key::Continued,
 ];
 
 fn keys() -> &'static [Key] {
@@ -53,6 +55,7 @@ fn words_of(key: Key) -> &'static str {
         Key::EarlyRead => "read before commit",
         Key::Limit => "used part of the limit",
         Key::Open => "aborted or still active",
+        Key::Continued => "continues further down",
     }
 }
 
@@ -87,6 +90,13 @@ fn has_charge(scene: &Scene<'_>, band: &Band<'_>, key: Key) -> bool {
         .any(|arrow| is_early_read(&band.columns, arrow) == (key == Key::EarlyRead))
 }
 
+/// Returns whether a lane of a band continues in the next one.
+fn has_continued(band: &Band<'_>) -> bool {
+    band.spans
+        .iter()
+        .any(|span| span.is_drawn && !span.has_outcome)
+}
+
 /// Returns whether the bar of the limit of a lane is filled.
 fn is_filled(lane: &Lane<'_>) -> bool {
     has_bar(lane) && lane.charged > 0
@@ -107,6 +117,7 @@ fn occurs(scene: &Scene<'_>, layout: &Layout<'_>, key: Key) -> bool {
             .lanes
             .iter()
             .any(|lane| lane.outcome != TxnOutcome::Committed),
+        Key::Continued => layout.bands.iter().any(has_continued),
     }
 }
 
@@ -167,6 +178,10 @@ fn push_sign(out: &mut String, key: Key, x: u32, y: u32, tip: &str) -> Result<()
             push_rect(out, "lf", x, top, 26, 10)
         }
         Key::Open => push_rect(out, "bu op", x, top, 26, 10),
+        Key::Continued => {
+            push_rect(out, "bu", x, top, 15, 10)?;
+            push_continued(out, x.saturating_add(17), height)
+        }
     }
 }
 

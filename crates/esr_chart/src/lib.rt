@@ -14,6 +14,7 @@ mod head;
 mod layout;
 mod legend;
 mod limits;
+mod reads;
 mod scene;
 mod signs;
 mod titles;
@@ -28,5 +29,5 @@ pub use layout::{Band, Drawn, Format, Heads, Layout, MARGIN, Spacing, layout_of}
 pub use legend::{legend_height, push_legend};
 pub use scene::{
     Action, Arrow, Cause, Farthest, Lane, Mark, Mistakes, Nearest, Note, NotedWrite, Order, Reason,
-    Relation, Rest, Scene,
+    Relation, Rest, Scene, Writer,
 };

@@ -9,14 +9,14 @@ use std::alloc::AllocError;
 /// The height of a bar.
 const HEIGHT: u32 = 10;
 
-/// Returns the height of an amount in a bar, at least 2 if there is any.
+/// Returns the height of an amount in a bar, at least 3 if there is any.
 fn height_of(amount: u64, limit: u64) -> u32 {
     let share = u128::from(amount.min(limit))
         .saturating_mul(u128::from(HEIGHT))
         .checked_div(u128::from(limit))
         .unwrap_or(0)
         .min(u128::from(HEIGHT)) as u32;
-    if amount > 0 { share.max(2) } else { 0 }
+    if amount > 0 { share.max(3) } else { 0 }
 }
 
 /// A part of a bar with one height.

@@ -2,7 +2,11 @@
 
 use esr_history::TxnId;
 use esr_outcomes::{TxnKind, TxnOutcome};
+use esr_text::number_letters;
 use esr_trace::OffReads;
+
+/// The maximum number of letters of two amounts in a head.
+const MAX_NOTE: usize = 26;
 
 /// A lane: a transaction from its begin to its end.
 #[derive(Clone, Copy)]
@@ -13,6 +17,8 @@ pub struct Lane<'a> {
     pub limit: u64,
     /// The import of a query; of an update the sum of its charges to the queries that are drawn.
     pub charged: u64,
+    /// The part of it whose charges are drawn.
+    pub drawn: u64,
     pub outcome: TxnOutcome,
     /// The distance of a committed query.
     pub distance: Option<u64>,
@@ -22,6 +28,12 @@ impl Lane<'_> {
     /// Returns whether the transaction is a query.
     pub fn is_query(&self) -> bool {
         self.kind != TxnKind::Update
+    }
+
+    /// Returns whether the head says how much of the charges is drawn: if that is less, and there is space.
+    pub fn has_drawn_note(&self) -> bool {
+        let letters = number_letters(self.charged).saturating_add(number_letters(self.drawn));
+        self.drawn < self.charged && letters <= MAX_NOTE
     }
 }
 
@@ -39,7 +51,8 @@ pub enum Action {
     },
     /// A read or write that was blocked, one or more times in a row.
     Blocked {
-        is_read: bool,
+        /// The value, if it is a write.
+        value: Option<i64>,
         cause: Cause,
         times: u64,
     },
@@ -53,6 +66,14 @@ pub enum Cause {
     Lock,
     Import,
     Export,
+}
+
+/// The writer of a value.
+#[derive(Clone, Copy, PartialEq, Eq)]
+pub enum Writer<'a> {
+    /// None: it is the opening value.
+    Opening,
+    Update(&'a str),
 }
 
 /// A write that explains the value of a read.
@@ -101,6 +122,10 @@ pub struct Mark<'a> {
     pub blocker: &'a str,
     /// True if a drawn charge depends on it, if it was blocked, or if it is a read that is off.
     pub is_key: bool,
+    /// The writer of the value of a read.
+    pub writer: Option<Writer<'a>>,
+    /// The writer of the value in the nearest placement of the query.
+    pub state_writer: Option<Writer<'a>>,
     /// What explains the value of a read, if that needs an explanation.
     pub note: Option<Note<'a>>,
     /// False if the note need not name the write, since that is drawn.
@@ -117,6 +142,15 @@ impl Mark<'_> {
             } => value.abs_diff(there).saturating_mul(self.weight),
             _ => 0,
         }
+    }
+}
+
+/// Returns the letters of a blank and a weight, ` (weight 900)`, or 0 if it is 1.
+pub fn weight_letters(weight: u64) -> usize {
+    if weight > 1 {
+        number_letters(weight).saturating_add(10)
+    } else {
+        0
     }
 }
 
@@ -182,6 +216,8 @@ pub struct Nearest<'a> {
     /// The distance of the query, and its reads that are off.
     pub distance: u64,
     pub off_reads: OffReads,
+    /// The distance from the opening values.
+    pub opening_distance: u64,
     /// The number of updates before it, and of all that committed before the query did.
     pub updates: u64,
     pub committed: u64,

@@ -2,7 +2,8 @@
 
 use crate::elements::{close_text, open_centred, push_circle, push_cross, push_square};
 use crate::layout::{Band, Column, TEXT_ROW};
-use crate::scene::{Action, Cause, Lane, Note, NotedWrite, Scene};
+use crate::reads::{all_rows, class_of_row, has_row, push_row};
+use crate::scene::{Action, Cause, Lane, Scene};
 use crate::titles::push_mark_title;
 use esr_text::{push_number, push_value};
 use std::alloc::AllocError;
@@ -23,93 +24,25 @@ fn push_sign(out: &mut String, action: Action, x: u32, y: u32) -> Result<(), All
     }
 }
 
-/// Appends the value of a read or a write.
+/// Appends the value of a write.
 fn push_mark_value(out: &mut String, value: i64, x: u32, y: u32) -> Result<(), AllocError> {
     open_centred(out, "lb ha", x, y)?;
     push_value(out, value)?;
     close_text(out)
 }
 
-/// Appends the value of a read that is off, and after it or below it the value in the nearest placement.
-fn push_values(
-    out: &mut String,
-    column: &Column<'_>,
-    value: i64,
-    there: i64,
-    y: u32,
-) -> Result<(), AllocError> {
-    open_centred(out, "lb rd ha", column.x, y)?;
-    push_value(out, value)?;
-    if column.is_folded {
-        close_text(out)?;
-        open_centred(out, "lb rd ha", column.x, y.saturating_add(TEXT_ROW))?;
-    } else {
-        out.push(' ')?;
-    }
-    out.push_str("not ")?;
-    push_value(out, there)?;
-    close_text(out)
-}
-
-/// Appends the distance of a read that is off.
-fn push_off(out: &mut String, column: &Column<'_>, y: u32) -> Result<(), AllocError> {
-    open_centred(out, "lb rd ha", column.x, y)?;
-    out.push_str("off by ")?;
-    push_number(out, column.mark.distance())?;
-    close_text(out)
-}
-
-/// Appends the write that explains a read, in two rows.
-fn push_write(out: &mut String, write: &NotedWrite<'_>, x: u32, y: u32) -> Result<(), AllocError> {
-    let update = write.update;
-    open_centred(out, "lb rd ha", x, y)?;
-    write!(out, "{update} wrote ")?;
-    push_value(out, write.value)?;
-    close_text(out)?;
-    open_centred(out, "lb rd ha", x, y.saturating_add(TEXT_ROW))?;
-    out.push_str("in step ")?;
-    push_number(out, write.step())?;
-    close_text(out)
-}
-
-/// Appends which charged update the update of a write follows, if it was not charged itself.
-fn push_follows(
-    out: &mut String,
-    write: &NotedWrite<'_>,
-    x: u32,
-    y: u32,
-) -> Result<(), AllocError> {
-    let Some(charged) = write.follows else {
-        return Ok(());
-    };
-    let update = write.update;
-    open_centred(out, "lb rd ha", x, y)?;
-    write!(out, "{update} follows {charged}")?;
-    close_text(out)
-}
-
-/// Appends which update wrote the same as a read returned, or that it is the opening value.
-fn push_equal(out: &mut String, update: Option<&str>, x: u32, y: u32) -> Result<(), AllocError> {
-    open_centred(out, "lb gy ha", x, y)?;
-    match update {
-        Some(update) => write!(out, "as {update} wrote")?,
-        None => out.push_str("as at the start")?,
-    }
-    close_text(out)
-}
-
-/// Appends the note below the values of a read, if it has one.
-fn push_note(out: &mut String, column: &Column<'_>, y: u32) -> Result<(), AllocError> {
-    let mark = &column.mark;
-    match mark.note {
-        Some(Note::Wrote(write)) if mark.has_note => {
-            push_write(out, &write, column.x, y)?;
-            push_follows(out, &write, column.x, y.saturating_add(2 * TEXT_ROW))
+/// Appends the rows below a read.
+fn push_rows(out: &mut String, column: &Column<'_>, top: u32) -> Result<(), AllocError> {
+    let mut y = top;
+    for row in all_rows() {
+        if has_row(column, *row) {
+            open_centred(out, class_of_row(&column.mark, *row), column.x, y)?;
+            push_row(out, column, *row)?;
+            close_text(out)?;
+            y = y.saturating_add(TEXT_ROW);
         }
-        Some(Note::Wrote(write)) => push_follows(out, &write, column.x, y),
-        Some(Note::Equals(update)) => push_equal(out, update, column.x, y),
-        None => Ok(()),
     }
+    Ok(())
 }
 
 /// Appends the lock or the limit that blocked an event.
@@ -156,38 +89,50 @@ fn push_value_label(
 ) -> Result<(), AllocError> {
     let y = top.saturating_add(43);
     match column.mark.action {
-        Action::Read {
-            value,
-            nearest: None,
-        } => {
-            push_mark_value(out, value, column.x, y)?;
-            push_note(out, column, y.saturating_add(TEXT_ROW))
-        }
-        Action::Read {
-            value,
-            nearest: Some(there),
-        } => {
-            push_values(out, column, value, there, y)?;
-            let rows = if column.is_folded { 2 } else { 1 };
-            let y = y.saturating_add(TEXT_ROW * rows);
-            push_off(out, column, y)?;
-            push_note(out, column, y.saturating_add(TEXT_ROW))
-        }
+        Action::Read { .. } => push_rows(out, column, y),
         Action::Write { value } => push_mark_value(out, value, column.x, y),
         Action::Blocked { cause, times, .. } => push_blocker(out, lane, column, (cause, times), y),
         Action::Begin | Action::Commit | Action::Abort => Ok(()),
     }
 }
 
-/// Appends the item of a mark, and what was tried if it was blocked.
+/// Appends a blank and a weight, if it is not 1.
+pub fn push_weight(out: &mut String, weight: u64) -> Result<(), AllocError> {
+    if weight <= 1 {
+        return Ok(());
+    }
+    out.push_str(" (weight ")?;
+    push_number(out, weight)?;
+    out.push(')')
+}
+
+/// Appends a blank and the value of a write that was blocked.
+fn push_refused(out: &mut String, value: Option<i64>) -> Result<(), AllocError> {
+    match value {
+        Some(value) => {
+            out.push_str(" = ")?;
+            push_value(out, value)
+        }
+        None => Ok(()),
+    }
+}
+
+/// Appends the item of a mark, its weight if it was read, and what was tried if that was blocked.
 fn push_item(out: &mut String, column: &Column<'_>, y: u32) -> Result<(), AllocError> {
+    let item = column.mark.item;
     open_centred(out, "lb ha", column.x, y)?;
     match column.mark.action {
-        Action::Blocked { is_read: true, .. } => out.push_str("read ")?,
-        Action::Blocked { .. } => out.push_str("write ")?,
-        _ => {}
+        Action::Blocked { value, .. } => {
+            out.push_str(if value.is_some() { "write " } else { "read " })?;
+            out.push_str(item)?;
+            push_refused(out, value)?;
+        }
+        Action::Read { .. } => {
+            out.push_str(item)?;
+            push_weight(out, column.mark.weight)?;
+        }
+        _ => out.push_str(item)?,
     }
-    out.push_str(column.mark.item)?;
     close_text(out)
 }
 

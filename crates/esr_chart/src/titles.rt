@@ -1,6 +1,7 @@
 //! The titles of marks and charges, which are shown when a pointer is over them.
 
-use crate::scene::{Action, Arrow, Cause, Lane, Mark, Note, NotedWrite};
+use crate::reads::push_writer;
+use crate::scene::{Action, Arrow, Cause, Lane, Mark, Note, NotedWrite, Writer};
 use esr_outcomes::TxnKind;
 use esr_text::{push_number, push_value};
 use esr_trace::outcome_words;
@@ -30,13 +31,20 @@ fn push_blocked(
     out: &mut String,
     name: &str,
     mark: &Mark<'_>,
-    is_read: bool,
+    value: Option<i64>,
     cause: Cause,
     times: u64,
 ) -> Result<(), AllocError> {
-    let verb = if is_read { "reading" } else { "writing" };
     let item = mark.item;
-    write!(out, "{name} was blocked from {verb} {item} by ")?;
+    write!(out, "{name} was blocked from ")?;
+    match value {
+        Some(value) => {
+            out.push_str("writing ")?;
+            push_value(out, value)?;
+            write!(out, " to {item} by ")?;
+        }
+        None => write!(out, "reading {item} by ")?,
+    }
     out.push_str(cause_words(cause))?;
     out.push_str(mark.blocker)?;
     if times > 1 {
@@ -54,12 +62,25 @@ pub fn kind_of(lane: &Lane<'_>) -> &'static str {
     }
 }
 
-/// Appends the value of the item in the nearest placement, if a read is off.
-fn push_nearest(out: &mut String, nearest: Option<i64>) -> Result<(), AllocError> {
+/// Appends a blank and the writer of a value.
+fn push_writer_after(out: &mut String, writer: Option<Writer<'_>>) -> Result<(), AllocError> {
+    if writer.is_some() {
+        out.push(' ')?;
+    }
+    push_writer(out, writer)
+}
+
+/// Appends the value of the item in the nearest placement with its writer, if a read is off.
+fn push_nearest(
+    out: &mut String,
+    nearest: Option<i64>,
+    writer: Option<Writer<'_>>,
+) -> Result<(), AllocError> {
     match nearest {
         Some(there) => {
             out.push_str(", which is ")?;
             push_value(out, there)?;
+            push_writer_after(out, writer)?;
             out.push_str(" in the nearest state")
         }
         None => Ok(()),
@@ -74,7 +95,7 @@ fn push_write(out: &mut String, write: &NotedWrite<'_>) -> Result<(), AllocError
     out.push_str(" in step ")?;
     push_number(out, write.step())?;
     match write.follows {
-        Some(charged) => write!(out, " and follows {charged}"),
+        Some(charged) => write!(out, " and comes after {charged}"),
         None => Ok(()),
     }
 }
@@ -83,9 +104,19 @@ fn push_write(out: &mut String, write: &NotedWrite<'_>) -> Result<(), AllocError
 fn push_note(out: &mut String, note: Option<Note<'_>>) -> Result<(), AllocError> {
     match note {
         Some(Note::Wrote(write)) => push_write(out, &write),
-        Some(Note::Equals(Some(update))) => write!(out, ", as {update} wrote"),
-        Some(Note::Equals(None)) => out.push_str(", as at the start"),
+        Some(Note::Equals(update)) => {
+            out.push_str(", as in the nearest state")?;
+            push_writer_after(out, Some(writer_of(update)))
+        }
         None => Ok(()),
+    }
+}
+
+/// Returns an update as a writer, or the opening value if there is none.
+fn writer_of(update: Option<&str>) -> Writer<'_> {
+    match update {
+        Some(update) => Writer::Update(update),
+        None => Writer::Opening,
     }
 }
 
@@ -102,7 +133,8 @@ fn push_action(out: &mut String, lane: &Lane<'_>, mark: &Mark<'_>) -> Result<(),
         Action::Read { value, nearest } => {
             write!(out, "{name} read {item}: ")?;
             push_value(out, value)?;
-            push_nearest(out, nearest)?;
+            push_writer_after(out, mark.writer)?;
+            push_nearest(out, nearest, mark.state_writer)?;
             push_note(out, mark.note)
         }
         Action::Write { value } => {
@@ -110,10 +142,11 @@ fn push_action(out: &mut String, lane: &Lane<'_>, mark: &Mark<'_>) -> Result<(),
             push_value(out, value)
         }
         Action::Blocked {
-            is_read,
+            value,
             cause,
             times,
-        } => push_blocked(out, name, mark, is_read, cause, times),
+            ..
+        } => push_blocked(out, name, mark, value, cause, times),
         Action::Commit => write!(out, "{name} committed"),
         Action::Abort => write!(out, "{name} aborted"),
     }

@@ -6,7 +6,7 @@
 
 use crate::arrow_reduction::Slots;
 use esr_cert::Chain;
-use esr_svg::{LanePart, LaneReads, LaneSegment};
+use esr_svg::{LanePart, LaneReads, LaneSegment, ReadValue};
 use esr_text::letters_of;
 use std::alloc::{AllocError, Global};
 
@@ -59,12 +59,22 @@ pub fn reads_of_values(
     Ok(reads)
 }
 
-/// Returns the values that were read of an item, without repetitions, and the number of reads.
-pub fn reads_in(alloc: Global, counts: &[(i64, u64)]) -> Result<LaneReads, AllocError> {
+/// Returns the values that were read of an item of this weight, without repetitions, with their differences from the value at
+/// the line, and the number of reads.
+pub fn reads_in(
+    alloc: Global,
+    counts: &[(i64, u64)],
+    at_line: i64,
+    weight: u64,
+) -> Result<LaneReads, AllocError> {
     let mut values = Vec::new(alloc);
     let mut count = 0u64;
     for (value, times) in counts {
-        values.push(*value)?;
+        values.push(ReadValue {
+            value: *value,
+            count: *times,
+            off: value.abs_diff(at_line).saturating_mul(weight),
+        })?;
         count = count.saturating_add(*times);
     }
     Ok(LaneReads { values, count })
@@ -98,6 +108,11 @@ impl LaneVersions<'_> {
             value: self.values.get(version).copied().unwrap_or(0),
             reads: self.reads.get(version).copied().unwrap_or(0),
         }
+    }
+
+    /// Returns the value at the line.
+    pub fn value_at_line(&self) -> i64 {
+        self.values.get(self.at_line).copied().unwrap_or(0)
     }
 
     /// Returns whether a version has a value that was read.

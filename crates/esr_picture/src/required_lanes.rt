@@ -49,6 +49,11 @@ impl Places {
         self.places.get(position as usize).copied().unwrap_or(0) as usize
     }
 
+    /// Returns whether the query could be at a place that is not the line.
+    fn is_other(&self, place: usize) -> bool {
+        place >= self.first && place != self.line
+    }
+
     /// Returns the cost of a lane after `place` updates. The indices of its writers ascend, because those before the
     /// line are its first ones.
     fn cost_at(&self, chain: &Chain, place: usize) -> u64 {
@@ -88,6 +93,24 @@ impl Costs {
             }
             last = cost;
         }
+    }
+
+    /// Returns the number of other possible places with the cost at the line.
+    pub fn count_ties(&self, places: &Places, at_line: u64) -> u64 {
+        let at_line = i128::from(at_line);
+        let mut sum = self.first;
+        let mut ties = if sum == at_line && places.is_other(0) {
+            1u64
+        } else {
+            0u64
+        };
+        for (place, change) in (1usize..).zip(self.changes.iter()) {
+            sum = sum.saturating_add(*change);
+            if sum == at_line && places.is_other(place) {
+                ties = ties.saturating_add(1);
+            }
+        }
+        ties
     }
 
     /// Returns the place with the least cost, if it is less than the cost at the line.

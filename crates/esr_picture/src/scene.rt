@@ -30,6 +30,11 @@ const LAST_TRIES: u32 = 15;
 /// The maximum number of values read within each stretch of several.
 const MAX_READS: usize = 2;
 
+/// The number of causes of reads that come before the updates that were charged most, and the number of these.
+const FIRST_CAUSES: usize = 2;
+
+const MAX_CHARGERS: usize = 3;
+
 /// The maximum number of items without a lane that are named.
 const MAX_NAMES: usize = 3;
 
@@ -90,8 +95,9 @@ fn drawn_in_order(alloc: Global, choice: &Choice) -> Result<Vec<u32>, AllocError
     Ok(drawn)
 }
 
-/// Returns the updates to draw first, by their positions: the causes of the reads that are off and, if these are few, those
-/// that were charged most, as in the timeline; without those that are not ahead of the query in commit order.
+/// Returns the updates to draw first, by their positions: the causes of the farthest reads, the updates that the sentences name
+/// since they were charged most, and the other causes, as in the timeline; without those that are not ahead of the query in
+/// commit order.
 fn relevant_positions(
     alloc: Global,
     audited: &Audited<'_>,
@@ -100,10 +106,13 @@ fn relevant_positions(
 ) -> Result<Vec<u32>, AllocError> {
     let placement = NearestPlacement::after(alloc, audited.history, &audited.finding.before)?;
     let causes = placement.causes(alloc, audited.history, trace)?;
-    let updates = relevant_updates(alloc, trace, &causes, &[], MAX_UPDATES)?;
+    let mut wanted = relevant_updates(alloc, trace, &[], &[], MAX_CHARGERS)?;
+    wanted.extend_from_slice(&causes)?;
+    let first_causes = first(&causes, FIRST_CAUSES);
+    let updates = relevant_updates(alloc, trace, first_causes, &wanted, MAX_UPDATES)?;
     let mut relevant = Vec::new(alloc);
     for update in &updates {
-        let is_wanted = relevant.len() < FEW_RELEVANT || causes.contains(update);
+        let is_wanted = relevant.len() < FEW_RELEVANT || wanted.contains(update);
         if let Some(position) = positions.of(*update)
             && is_wanted
         {
@@ -273,23 +282,16 @@ impl<'a, 'b> SceneParts<'a, 'b> {
         })
     }
 
-    /// Returns the reads of the item of a chain.
-    fn reads(&self, alloc: Global, chain: &Chain) -> Result<LaneReads, AllocError> {
+    /// Returns the reads of the item of a chain, which has this value at the line.
+    fn reads(&self, alloc: Global, chain: &Chain, at_line: i64) -> Result<LaneReads, AllocError> {
         let counts = read_counts_by_value(alloc, self.source.trace, chain.item)?;
-        reads_in(alloc, &counts)
-    }
-
-    /// Returns the segments of a chain, with this version at the line.
-    fn segments(
-        &self,
-        alloc: Global,
-        chain: &Chain,
-        at_line: usize,
-    ) -> Result<Vec<LaneSegment>, AllocError> {
-        let versions = self
+        let weight = self
             .source
-            .versions(alloc, chain, at_line, self.reads_drawn)?;
-        versions.segments(alloc, &self.slots)
+            .audited
+            .history
+            .metric()
+            .distance(chain.item, 0, 1);
+        reads_in(alloc, &counts, at_line, weight)
     }
 
     /// Returns the lane of a chain, whose reads differ by `difference` from the version at the line.
@@ -300,8 +302,11 @@ impl<'a, 'b> SceneParts<'a, 'b> {
         at_line: usize,
         difference: u64,
     ) -> Result<Lane<'a>, AllocError> {
-        let segments = self.segments(alloc, chain, at_line)?;
-        let read = self.reads(alloc, chain)?;
+        let versions = self
+            .source
+            .versions(alloc, chain, at_line, self.reads_drawn)?;
+        let segments = versions.segments(alloc, &self.slots)?;
+        let read = self.reads(alloc, chain, versions.value_at_line())?;
         self.lane_with(alloc, chain, segments, read, difference)
     }
 
@@ -433,6 +438,7 @@ impl<'a, 'b> SceneParts<'a, 'b> {
             omitted_items: without_lane.saturating_sub(self.choice.unwritten),
             omitted_items_off,
             omitted_difference,
+            ties: self.choice.ties,
             deciding: Deciding {
                 names: Vec::new(alloc),
                 count: 0,

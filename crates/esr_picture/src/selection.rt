@@ -42,6 +42,8 @@ pub struct Choice {
     /// If the drawn lanes cost less at another place than at the line: the other lanes that cost more there, by their
     /// positions among the chains, the costliest first.
     pub deciding: Vec<usize>,
+    /// The number of other places of the line with the same distance.
+    pub ties: u64,
 }
 
 /// Returns for each of `count` positions whether it is in the set.
@@ -361,6 +363,24 @@ fn deciding(
     }
 }
 
+/// Returns the number of other places at which all lanes together cost as much as at the line.
+fn ties(
+    alloc: Global,
+    problem: &Problem,
+    crossings: &[Crossing],
+    places: &Places,
+) -> Result<u64, AllocError> {
+    let mut costs = Costs::none(alloc, problem.updates().len())?;
+    for chain in problem.chains() {
+        costs.add(chain, places);
+    }
+    let mut at_line = 0u64;
+    for crossing in crossings {
+        at_line = at_line.saturating_add(crossing.off);
+    }
+    Ok(costs.count_ties(places, at_line))
+}
+
 /// The updates before the line, and those after it.
 fn sides_of(
     alloc: Global,
@@ -446,6 +466,7 @@ fn choose_at(
     let places = Places::new(alloc, inside, problem.must())?;
     let (lanes, updates) = draw(alloc, problem, &crossings, unwritten, &places, limits)?;
     let deciding = deciding(alloc, problem, &crossings, &lanes, &places)?;
+    let ties = ties(alloc, problem, &crossings, &places)?;
     let (before, after) = sides_of(alloc, &updates, inside)?;
     Ok(Choice {
         crossings,
@@ -454,6 +475,7 @@ fn choose_at(
         before,
         after,
         deciding,
+        ties,
     })
 }
 

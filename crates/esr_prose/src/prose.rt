@@ -113,7 +113,7 @@ fn push_answer(
         return Ok(());
     }
     out.push(' ')?;
-    push_strict(alloc, out, &audited)
+    push_strict(alloc, out, &audited, trace)
 }
 
 /// Appends the begin of the query.

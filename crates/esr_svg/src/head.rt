@@ -5,7 +5,7 @@
 
 use crate::elements::push_text;
 use crate::layout::{ERROR_LINE_HEIGHT, Layout, MARGIN, SENTENCE_LINE_HEIGHT};
-use crate::scene::{Lane, Scene, Update};
+use crate::scene::{Lane, ReadValue, Scene, Update};
 use crate::texts::ErrorLine;
 use esr_text::{first, push_number, push_sanitized, push_value};
 use std::alloc::AllocError;
@@ -123,10 +123,10 @@ fn push_order(
 }
 
 /// Appends at most two of the values that were read of an item, for the description.
-fn push_values(out: &mut String, values: &[i64]) -> Result<(), AllocError> {
+fn push_values(out: &mut String, values: &[ReadValue]) -> Result<(), AllocError> {
     for value in first(values, 2) {
         out.push_str(" read ")?;
-        push_value(out, *value)?;
+        push_value(out, value.value)?;
         out.push(',')?;
     }
     Ok(())

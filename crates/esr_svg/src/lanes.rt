@@ -6,11 +6,11 @@ use crate::elements::{
 };
 use crate::layout::{Layout, MARGIN, TRANSIENT_READ_INDENT, TransientReadLineCount};
 use crate::parts::push_segment;
-use crate::scene::{Lane, LaneReads, SameValue, Scene, TransientRead, TransientReads};
+use crate::scene::{Lane, LaneReads, ReadValue, SameValue, Scene, TransientRead, TransientReads};
 use crate::slots::slot_after;
 use crate::widths::{
-    TransientReadWidths, difference_width, transient_read_widths, weighted_difference_width,
-    width_of,
+    TransientReadWidths, difference_width, has_long_form, has_terms, long_difference_width,
+    transient_read_widths, width_of,
 };
 use esr_text::{push_number, push_value};
 use std::alloc::{AllocError, Global};
@@ -48,15 +48,33 @@ fn push_more(out: &mut String, read: &LaneReads, y: u32) -> Result<(), AllocErro
         return Ok(());
     }
     let more = read.values.len().saturating_sub(1);
-    open_text(out, "m g", MARGIN, y)?;
-    push_rest(out, read.count, more, read.values.get(1).copied())
+    let shown = if more > 0 {
+        read.values.get(1)
+    } else {
+        read.values.first()
+    };
+    open_text(out, class_of(shown), MARGIN, y)?;
+    push_rest(
+        out,
+        read.count,
+        more,
+        read.values.get(1).map(|second| second.value),
+    )
+}
+
+/// Returns the class of the text on a read: red if it is off at the line.
+fn class_of(read: Option<&ReadValue>) -> &'static str {
+    match read {
+        Some(read) if read.off > 0 => "m r",
+        _ => "m g",
+    }
 }
 
 /// Appends the first value that was read of an item.
-fn push_first(out: &mut String, value: i64, y: u32) -> Result<(), AllocError> {
-    open_text(out, "m g", MARGIN, y)?;
+fn push_first(out: &mut String, read: &ReadValue, y: u32) -> Result<(), AllocError> {
+    open_text(out, class_of(Some(read)), MARGIN, y)?;
     out.push_str("read ")?;
-    push_value(out, value)?;
+    push_value(out, read.value)?;
     out.push_str("</text>")
 }
 
@@ -135,8 +153,8 @@ fn push_label(
 ) -> Result<(), AllocError> {
     push_text(out, "m n", MARGIN, y.saturating_sub(6), lane.name)?;
     push_weight(out, lane, y.saturating_sub(23))?;
-    if let Some(value) = lane.read.values.first() {
-        push_first(out, *value, y.saturating_add(12))?;
+    if let Some(read) = lane.read.values.first() {
+        push_first(out, read, y.saturating_add(12))?;
     }
     push_more(out, &lane.read, y.saturating_add(28))?;
     let below = if is_read_again(&lane.read) { 35 } else { 19 };
@@ -294,21 +312,46 @@ fn push_all_transient_reads(
     Ok(())
 }
 
-/// Appends the distance of a lane, and its difference and weight if they are to be shown.
-fn push_off(
-    out: &mut String,
-    off: u64,
-    weight: u64,
-    has_weight_note: bool,
-) -> Result<(), AllocError> {
-    out.push_str("off by ")?;
-    if weight > 1 && has_weight_note {
-        push_number(out, off / weight)?;
-        out.push_str(" x ")?;
-        push_number(out, weight)?;
-        out.push_str(" = ")?;
+/// Appends the differences of the reads of a lane that are off, each as often as its value was read: `3 + 7`.
+fn push_terms(out: &mut String, lane: &Lane<'_>) -> Result<(), AllocError> {
+    let mut joint = "";
+    for read in &lane.read.values {
+        if read.off > 0 {
+            for _ in 0..read.count {
+                out.push_str(joint)?;
+                push_number(out, read.off.checked_div(lane.weight).unwrap_or(0))?;
+                joint = " + ";
+            }
+        }
     }
-    push_number(out, off)?;
+    Ok(())
+}
+
+/// Appends the factors of the distance of a lane: the differences of its reads or their sum, and the weight.
+fn push_factors(out: &mut String, lane: &Lane<'_>) -> Result<(), AllocError> {
+    match (has_terms(lane), lane.weight > 1) {
+        (true, true) => {
+            out.push('(')?;
+            push_terms(out, lane)?;
+            out.push(')')?;
+        }
+        (true, false) => push_terms(out, lane)?,
+        _ => push_number(out, lane.difference.checked_div(lane.weight).unwrap_or(0))?,
+    }
+    if lane.weight > 1 {
+        out.push_str(" x ")?;
+        push_number(out, lane.weight)?;
+    }
+    out.push_str(" = ")
+}
+
+/// Appends the distance of a lane, with its factors if they are to be shown.
+fn push_off(out: &mut String, lane: &Lane<'_>, is_long: bool) -> Result<(), AllocError> {
+    out.push_str("off by ")?;
+    if is_long {
+        push_factors(out, lane)?;
+    }
+    push_number(out, lane.difference)?;
     out.push_str("</text>\n")
 }
 
@@ -348,14 +391,14 @@ fn push_crossing(
         return out.push_str("as read</text>\n");
     }
     write!(out, "<circle class='c' cx='{x}' cy='{y}' r='5'/>")?;
-    let has_weight_note = layout.has_space_for_weights(query_slot);
-    let width = if lane.weight > 1 && has_weight_note {
-        weighted_difference_width(lane)
+    let is_long = has_long_form(lane) && layout.has_space_for_terms(query_slot);
+    let width = if is_long {
+        long_difference_width(lane)
     } else {
         difference_width(lane)
     };
     open_at_line(out, "m r o", x, y, width, is_left_of_line)?;
-    push_off(out, lane.difference, lane.weight, has_weight_note)
+    push_off(out, lane, is_long)
 }
 
 /// Appends the distance of each lane where the line crosses it.

@@ -8,7 +8,7 @@ use crate::scene::{Arrow, Lane, MAX_LANES, Scene};
 use crate::slots::{Slots, lanes_left};
 use crate::texts::Texts;
 use crate::widths::{
-    box_width, difference_width, transient_read_widths, weighted_difference_width, width_of,
+    box_width, difference_width, long_difference_width, transient_read_widths, width_of,
 };
 use std::alloc::{AllocError, Global};
 
@@ -79,14 +79,14 @@ pub struct Layout {
     /// The width of the widest difference, which is written next to the query's line.
     difference_width: u32,
     /// The width of the widest text that has a difference and the weight of its item.
-    weighted_difference_width: u32,
+    long_difference_width: u32,
 }
 
 /// The maximum width of each kind of text over the lanes.
 #[derive(Clone, Copy)]
 struct MaxWidths {
     difference: u32,
-    weighted_difference: u32,
+    long_difference: u32,
     /// The width of the text about transient reads, in one line.
     transient_read: u32,
     /// The width of the same text, in two lines.
@@ -98,9 +98,7 @@ impl MaxWidths {
     fn include(&mut self, lane: &Lane<'_>) {
         let transient_read = transient_read_widths(&lane.transient_reads);
         self.difference = self.difference.max(difference_width(lane));
-        self.weighted_difference = self
-            .weighted_difference
-            .max(weighted_difference_width(lane));
+        self.long_difference = self.long_difference.max(long_difference_width(lane));
         self.transient_read = self.transient_read.max(
             transient_read
                 .value_width
@@ -116,14 +114,14 @@ impl MaxWidths {
 fn max_widths(lanes: &[Lane<'_>]) -> MaxWidths {
     let mut widths = MaxWidths {
         difference: 0,
-        weighted_difference: 0,
+        long_difference: 0,
         transient_read: 0,
         folded_transient_read: 0,
     };
     for lane in lanes {
         widths.include(lane);
     }
-    widths.weighted_difference = widths.weighted_difference.max(widths.difference);
+    widths.long_difference = widths.long_difference.max(widths.difference);
     widths
 }
 
@@ -162,8 +160,8 @@ fn fits_preferred_width(x: u32, width: u32) -> bool {
 /// Returns the width that the differences need to the right of the query's line, which is at `x`, or 0 if they are written
 /// to its left.
 fn width_right_of_line(x: u32, widths: MaxWidths) -> u32 {
-    if fits_preferred_width(x, widths.weighted_difference) {
-        widths.weighted_difference
+    if fits_preferred_width(x, widths.long_difference) {
+        widths.long_difference
     } else if fits_preferred_width(x, widths.difference) {
         widths.difference
     } else {
@@ -250,7 +248,7 @@ impl Layout {
             lane_count: scene.lanes.len().min(MAX_LANES) as u8,
             legend_rows: count_rows(scene, width),
             difference_width: widths.difference,
-            weighted_difference_width: widths.weighted_difference,
+            long_difference_width: widths.long_difference,
             slots,
             texts,
         })
@@ -325,15 +323,15 @@ impl Layout {
     }
 
     /// Returns whether the differences with their weights fit between the query's line and the preferred maximum width.
-    pub fn has_space_for_weights(&self, query_slot: u8) -> bool {
-        fits_preferred_width(self.x(query_slot), self.weighted_difference_width)
+    pub fn has_space_for_terms(&self, query_slot: u8) -> bool {
+        fits_preferred_width(self.x(query_slot), self.long_difference_width)
     }
 
     /// Returns whether the differences are written to the left of the query's line, because they do not fit to its right
     /// even without weights.
     pub fn are_differences_left_of_line(&self, query_slot: u8) -> bool {
         let x = self.x(query_slot);
-        !fits_preferred_width(x, self.weighted_difference_width)
+        !fits_preferred_width(x, self.long_difference_width)
             && !fits_preferred_width(x, self.difference_width)
     }
 

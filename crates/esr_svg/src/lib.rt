@@ -23,8 +23,8 @@ mod widths;
 pub use layout::updates_to_keep;
 pub use root::svg_element;
 pub use scene::{
-    Arrow, Deciding, Lane, LanePart, LaneReads, LaneSegment, MAX_LANES, MAX_UPDATES, SameValue,
-    Scene, TransientRead, TransientReads, Update,
+    Arrow, Deciding, Lane, LanePart, LaneReads, LaneSegment, MAX_LANES, MAX_UPDATES, ReadValue,
+    SameValue, Scene, TransientRead, TransientReads, Update,
 };
 pub use svg::{Parts, parts_of};
 pub use texts::MAX_ERROR_LETTERS;

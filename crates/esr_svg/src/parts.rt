@@ -130,9 +130,9 @@ fn push_several(
     push_number(out, versions as u64)?;
     out.push_str(if is_first { " values" } else { " others" })?;
     if fitting > 0 {
-        out.push_str(", ")?;
+        out.push_str(" (")?;
         push_number(out, fitting as u64)?;
-        out.push_str(" as read")?;
+        out.push_str(" read)")?;
     }
     Ok(())
 }

@@ -16,10 +16,20 @@ pub struct Arrow {
     pub title: String,
 }
 
+/// A value that was read of an item.
+#[derive(Clone, Copy)]
+pub struct ReadValue {
+    pub value: i64,
+    /// The number of its reads.
+    pub count: u64,
+    /// The difference of one of them from the version at the line, times the weight.
+    pub off: u64,
+}
+
 /// The reads of an item: the values without repetitions, and the number of reads.
 #[derive(Drop)]
 pub struct LaneReads {
-    pub values: Vec<i64>,
+    pub values: Vec<ReadValue>,
     pub count: u64,
 }
 
@@ -142,6 +152,8 @@ pub struct Scene<'a> {
     /// The number of omitted items whose reads differ from their versions at the line, and the sum of these differences.
     pub omitted_items_off: usize,
     pub omitted_difference: u64,
+    /// The number of other places of the line, in this order of the updates, with the same distance.
+    pub ties: u64,
     /// The items without a lane that keep the line from a position at which the lanes would be less far off.
     pub deciding: Deciding<'a>,
 }

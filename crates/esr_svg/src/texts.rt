@@ -31,7 +31,7 @@ pub struct ErrorLine {
 pub struct Texts {
     pub heading: Vec<String>,
     pub sentences: Vec<String>,
-    /// The sentences about the updates and items that are not drawn.
+    /// The sentences about the updates and items that are not drawn, and about the place of the line.
     pub omissions: Vec<String>,
     pub errors: Vec<ErrorLine>,
 }
@@ -178,7 +178,7 @@ fn push_fitting(
         if lane.segments.iter().any(has_fitting) {
             sentences.push(String::from_str(
                 alloc,
-                "Of values that are not drawn, those as read equal a value that it read.",
+                "Of values that are not drawn, those counted as read equal a value that it read.",
             )?)?;
             return Ok(());
         }
@@ -205,13 +205,64 @@ fn push_deciding(
     Ok(())
 }
 
-/// Returns the lines on what is not drawn.
+/// Returns whether an update after the line is drawn.
+fn has_later(scene: &Scene<'_>) -> bool {
+    scene
+        .updates
+        .iter()
+        .any(|update| update.slot > scene.query_slot)
+}
+
+/// Adds the sentence on why the updates after the line are there, if any are drawn.
+fn push_later(
+    alloc: Global,
+    sentences: &mut Vec<String>,
+    scene: &Scene<'_>,
+) -> Result<(), AllocError> {
+    if !has_later(scene) {
+        return Ok(());
+    }
+    let query = scene.query_name;
+    let mut words = String::new(alloc);
+    write!(
+        words,
+        "The updates after the line committed before {query} too: with any of them before the line, {query} would be off by as much or more."
+    )?;
+    sentences.push(words)?;
+    Ok(())
+}
+
+/// Adds the sentence on the places that are as near as the line, if there are any.
+fn push_ties(
+    alloc: Global,
+    sentences: &mut Vec<String>,
+    scene: &Scene<'_>,
+) -> Result<(), AllocError> {
+    if scene.ties == 0 {
+        return Ok(());
+    }
+    let query = scene.query_name;
+    let mut words = String::from_str(alloc, "At ")?;
+    push_count(&mut words, scene.ties, " other place", " other places")?;
+    write!(words, " of the line in this order {query} would be ")?;
+    words.push_str(if scene.distance == 0 {
+        "exact too; the first is drawn."
+    } else {
+        "off by as much; the first is drawn."
+    })?;
+    sentences.push(words)?;
+    Ok(())
+}
+
+/// Returns the lines on what is not drawn, and on the place of the line.
 fn omissions_of(alloc: Global, scene: &Scene<'_>, width: u32) -> Result<Vec<String>, AllocError> {
     let mut sentences = Vec::new(alloc);
     push_unwritten(alloc, &mut sentences, scene)?;
     push_rest(alloc, &mut sentences, scene)?;
     push_fitting(alloc, &mut sentences, scene)?;
     push_deciding(alloc, &mut sentences, &scene.deciding)?;
+    push_later(alloc, &mut sentences, scene)?;
+    push_ties(alloc, &mut sentences, scene)?;
     lines_of(alloc, &sentences, MAX_SENTENCES, width)
 }
 

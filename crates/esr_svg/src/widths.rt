@@ -1,7 +1,9 @@
 //! The width of each text, which is known without measuring: names and numbers are in a font of one width, none wider
 //! than 0.61 of its height, and sentences in one whose letters are on average not wider than 0.64 of it.
 
-use crate::scene::{Lane, LanePart, LaneReads, LaneSegment, SameValue, TransientReads, Update};
+use crate::scene::{
+    Lane, LanePart, LaneReads, LaneSegment, ReadValue, SameValue, TransientReads, Update,
+};
 use esr_text::{letters_of, number_letters};
 
 /// Returns the width of letters of a name, a value or a sentence.
@@ -10,10 +12,10 @@ pub fn width_of(letters: usize) -> u32 {
 }
 
 /// Returns the letters of the longest of some values.
-fn widest_value(values: &[i64]) -> usize {
+fn widest_value(values: &[ReadValue]) -> usize {
     let mut widest = 0usize;
-    for value in values {
-        widest = widest.max(letters_of(*value));
+    for read in values {
+        widest = widest.max(letters_of(read.value));
     }
     widest
 }
@@ -60,7 +62,7 @@ fn part_letters(part: LanePart) -> usize {
             if fitting > 0 {
                 count
                     .saturating_add(number_letters(fitting as u64))
-                    .saturating_add(10)
+                    .saturating_add(8)
             } else {
                 count
             }
@@ -120,18 +122,53 @@ pub fn difference_width(lane: &Lane<'_>) -> u32 {
     width_of(number_letters(lane.difference).saturating_add(7))
 }
 
-/// Returns the width of this text with the weight as a factor, or 0 if the weight is 1.
-pub fn weighted_difference_width(lane: &Lane<'_>) -> u32 {
-    let Some(difference) = lane.difference.checked_div(lane.weight) else {
-        return 0;
-    };
-    if lane.weight < 2 {
+/// The maximum number of differences of reads that are shown one by one.
+const MAX_TERMS: u64 = 3;
+
+/// Returns whether the differences of the reads of a lane that are off are shown one by one: two or three.
+pub fn has_terms(lane: &Lane<'_>) -> bool {
+    let mut count = 0u64;
+    for read in &lane.read.values {
+        if read.off > 0 {
+            count = count.saturating_add(read.count);
+        }
+    }
+    count > 1 && count <= MAX_TERMS
+}
+
+/// Returns whether a lane has a longer text on its difference, with a weight or with several terms.
+pub fn has_long_form(lane: &Lane<'_>) -> bool {
+    lane.difference > 0 && (lane.weight > 1 || has_terms(lane))
+}
+
+/// Returns the letters of the differences of the reads of a lane that are off: of `3 + 7`.
+fn terms_letters(lane: &Lane<'_>) -> usize {
+    let mut letters = 0usize;
+    for read in &lane.read.values {
+        if read.off > 0 {
+            let difference = read.off.checked_div(lane.weight).unwrap_or(0);
+            let term = number_letters(difference).saturating_add(3);
+            letters = letters.saturating_add(term.saturating_mul(
+                read.count.min(MAX_TERMS) as usize,
+            ));
+        }
+    }
+    letters
+}
+
+/// Returns the width of this text with its terms and its weight, as `off by (3 + 7) x 4 = 40`, or 0 if it has neither.
+pub fn long_difference_width(lane: &Lane<'_>) -> u32 {
+    if !has_long_form(lane) {
         return 0;
     }
-    let factors = number_letters(difference)
-        .saturating_add(number_letters(lane.weight))
-        .saturating_add(6);
-    difference_width(lane).saturating_add(width_of(factors))
+    let difference = lane.difference.checked_div(lane.weight).unwrap_or(0);
+    let terms = if has_terms(lane) {
+        terms_letters(lane).saturating_add(2)
+    } else {
+        number_letters(difference)
+    };
+    let factor = number_letters(lane.weight).saturating_add(6);
+    difference_width(lane).saturating_add(width_of(terms.saturating_add(factor)))
 }
 
 /// The widths of the two parts of the text about a transient read.

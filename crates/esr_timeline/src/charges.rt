@@ -196,6 +196,36 @@ pub fn with_exports<'a>(
     Ok(noted)
 }
 
+/// Returns the sum of the charges to the query of a lane.
+fn sum_to(arrows: &[Arrow<'_>], lane: usize) -> u64 {
+    let mut sum = 0u64;
+    for arrow in arrows {
+        if arrow.to == lane {
+            sum = sum.saturating_add(arrow.amount);
+        }
+    }
+    sum
+}
+
+/// Returns the lanes with the sums of the charges that are drawn.
+pub fn with_drawn<'a>(
+    alloc: Global,
+    lanes: &[Lane<'a>],
+    arrows: &[Arrow<'a>],
+) -> Result<Vec<Lane<'a>>, AllocError> {
+    let mut noted = Vec::with_capacity(alloc, lanes.len())?;
+    for (number, lane) in lanes.iter().enumerate() {
+        let mut lane = *lane;
+        lane.drawn = if lane.is_query() {
+            sum_to(arrows, number)
+        } else {
+            sum_by(arrows, lane.txn)
+        };
+        noted.push(lane)?;
+    }
+    Ok(noted)
+}
+
 /// Returns the sum of some charges.
 pub fn sum_of(arrows: &[Arrow<'_>]) -> u64 {
     let mut sum = 0u64;

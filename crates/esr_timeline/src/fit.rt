@@ -5,7 +5,7 @@
 
 use crate::causes::Causes;
 use crate::charges::{
-    ChargedQueries, between, charges_to, drawable, greatest, sum_of, with_exports,
+    ChargedQueries, between, charges_to, drawable, greatest, sum_of, with_drawn, with_exports,
 };
 use crate::farthest::farthest_read;
 use crate::lanes::{
@@ -31,8 +31,8 @@ use std::alloc::{AllocError, Global};
 /// The wide layout of a timeline: no band is wider, unless one event is.
 const WIDE_FORMAT: Format = Format {
     width: 1064,
-    bands: 3,
-    height: 1400,
+    bands: 4,
+    height: 1900,
     heads: Heads::InFront,
 };
 
@@ -462,6 +462,7 @@ impl<'a> Material<'a> {
         choice.hidden = all.len().saturating_sub(choice.marks.len());
         choice.hidden_off = count_off_reads(&all).saturating_sub(count_off_reads(&choice.marks));
         choice.arrows = shown(alloc, &choice.arrows, &choice.marks)?;
+        choice.lanes = with_drawn(alloc, &choice.lanes, &choice.arrows)?;
         Ok(())
     }
 

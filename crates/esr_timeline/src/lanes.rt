@@ -7,7 +7,7 @@ use esr_history::{Entry, Refusal, Reply, TxnId};
 use esr_outcomes::{Auditor, kind_of, outcome_of};
 use esr_report::name_of_transaction;
 use esr_text::first;
-use esr_trace::{NearestPlacement, QueryTrace, off_reads, relevant_updates};
+use esr_trace::{NearestPlacement, QueryTrace, off_reads, opening_distance, relevant_updates};
 use std::alloc::{AllocError, Global};
 
 /// The maximum number of lanes.
@@ -225,6 +225,7 @@ pub fn nearest_to<'a>(
                 query: name_of_transaction(source.transactions, query),
                 distance: audit.distance,
                 off_reads: off_reads(source.history, &placement, trace),
+                opening_distance: opening_distance(alloc, source.history, trace)?,
                 updates: audit.before.len() as u64,
                 committed: count_committed(source, query),
                 last: last.map_or("", |(txn, _)| name_of_transaction(source.transactions, txn)),
@@ -257,6 +258,7 @@ fn lane_of<'a>(alloc: Global, source: Source<'a>, txn: TxnId) -> Result<Lane<'a>
         kind: kind_of(source.history, txn),
         limit: facts.map_or(0, |facts| facts.limit),
         charged: source.history.import(txn),
+        drawn: 0,
         outcome: outcome_of(source.history, txn),
         distance: source.auditor.distance(alloc, txn)?,
     })

@@ -1,7 +1,7 @@
 //! The marks on lanes: one pass over the log. An event that was blocked and tried again at once has one mark.
 
 use crate::lanes::{blocker_of, lane_at, placements_of};
-use crate::notes::note_of;
+use crate::notes::{note_of, writer_in, writer_read};
 use crate::source::Source;
 use esr_chart::{Action, Arrow, Cause, Lane, Mark, Mistakes, Note};
 use esr_history::{Entry, Event, Refusal, Reply, TxnId};
@@ -25,11 +25,19 @@ fn cause_of(reply: Reply) -> Option<Cause> {
     }
 }
 
+/// Returns the value of an event, if it is a write.
+fn value_written(event: Event) -> Option<i64> {
+    match event {
+        Event::Write { value, .. } => Some(value),
+        _ => None,
+    }
+}
+
 /// Returns the action of an entry, unless it was refused for a mistake.
 fn action_of(entry: Entry) -> Option<Action> {
     if let Some(cause) = cause_of(entry.reply) {
         return Some(Action::Blocked {
-            is_read: matches!(entry.event, Event::Read { .. }),
+            value: value_written(entry.event),
             cause,
             times: 1,
         });
@@ -104,6 +112,8 @@ fn mark_with<'a>(
         weight: item_weight(source, entry.event),
         blocker: blocker_name(source, entry.reply),
         is_key: false,
+        writer: None,
+        state_writer: None,
         note: None,
         has_note: false,
     }
@@ -126,6 +136,7 @@ fn compare<'a>(
         return;
     }
     mark.action = compared(value, placement, item);
+    mark.state_writer = Some(writer_in(source, placement, item));
     let is_off = placement.value(item.0) != Some(value);
     mark.note = note_of(source, placement, mark.place, item, is_off);
     mark.has_note = mark.note.is_some();
@@ -141,6 +152,9 @@ fn mark_of<'a>(
 ) -> Option<Mark<'a>> {
     let lane = lane_at(lanes, entry.txn()?)?;
     let mut mark = mark_with(source, lane, place, entry, action_of(entry)?);
+    if matches!(mark.action, Action::Read { .. }) {
+        mark.writer = Some(writer_read(source, place));
+    }
     if let Some(placement) = placements.get(lane) {
         compare(source, placement, &mut mark, entry.event);
     }
@@ -186,17 +200,14 @@ pub fn mistakes_on(source: Source<'_>, lanes: &[Lane<'_>]) -> Mistakes {
 fn is_retry(last: &Mark<'_>, mark: &Mark<'_>) -> bool {
     match (last.action, mark.action) {
         (
-            Action::Blocked { is_read, cause, .. },
+            Action::Blocked { value, cause, .. },
             Action::Blocked {
-                is_read: reads,
+                value: next,
                 cause: now,
                 ..
             },
         ) => {
-            is_read == reads
-                && cause == now
-                && last.item == mark.item
-                && last.blocker == mark.blocker
+            value == next && cause == now && last.item == mark.item && last.blocker == mark.blocker
         }
         _ => false,
     }

@@ -6,7 +6,7 @@
 
 use crate::causes::Causes;
 use crate::source::Source;
-use esr_chart::{Mark, Note, NotedWrite};
+use esr_chart::{Mark, Note, NotedWrite, Writer};
 use esr_history::{Event, TxnId};
 use esr_items::ItemId;
 use esr_outcomes::{TxnOutcome, outcome_of};
@@ -69,6 +69,24 @@ fn write_kept(source: Source<'_>, placement: &NearestPlacement, item: ItemId) ->
         next = source.history.earlier_on_item(index);
     }
     None
+}
+
+/// Returns an update as the writer of a value, or the opening value if there is none.
+fn writer_of(source: Source<'_>, update: Option<TxnId>) -> Writer<'_> {
+    match update {
+        Some(update) => Writer::Update(name_of_transaction(source.transactions, update)),
+        None => Writer::Opening,
+    }
+}
+
+/// Returns the writer of the value that the read of an entry returned.
+pub fn writer_read(source: Source<'_>, place: usize) -> Writer<'_> {
+    writer_of(source, write_read(source, place).map(|write| write.update))
+}
+
+/// Returns the writer of the value of an item in a placement.
+pub fn writer_in<'a>(source: Source<'a>, placement: &NearestPlacement, item: ItemId) -> Writer<'a> {
+    writer_of(source, placement.writer(item.0))
 }
 
 /// Returns a write as a note.

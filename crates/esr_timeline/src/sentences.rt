@@ -8,7 +8,7 @@ use esr_chart::{
 };
 use esr_outcomes::TxnKind;
 use esr_text::{first, push_count, push_number, wrap};
-use esr_trace::push_summands;
+use esr_trace::{push_charge_rule, push_opening, push_summands};
 use std::alloc::{AllocError, Global};
 
 /// The width of a letter of a sentence, and of the heading.
@@ -46,10 +46,12 @@ fn push_updates(out: &mut String, nearest: Nearest<'_>) -> Result<(), AllocError
     } else {
         push_number(out, nearest.committed)?;
     }
+    out.push_str(" updates that committed before ")?;
+    out.push_str(nearest.query)?;
     out.push_str(if nearest.updates == 1 {
-        " updates that committed before it: "
+        ": "
     } else {
-        " updates that committed before it, the last of them "
+        ", the last of them "
     })?;
     out.push_str(nearest.last)?;
     out.push_str(" in step ")?;
@@ -113,14 +115,23 @@ fn is_strict(lane: &Lane<'_>, query: &str) -> bool {
 
 /// Appends which states a strict query excludes, or nothing if the query is not strict.
 fn push_excluded(out: &mut String, scene: &Scene<'_>) -> Result<(), AllocError> {
-    let Some(Nearest { query, .. }) = scene.nearest else {
+    let Some(
+        Nearest {
+            query,
+            distance,
+            opening_distance,
+            ..
+        },
+    ) = scene.nearest
+    else {
         return Ok(());
     };
     if scene.lanes.iter().any(|lane| is_strict(lane, query)) {
-        return write!(
+        write!(
             out,
             "{query} is strict: states without an update that committed before {query} began are excluded."
-        );
+        )?;
+        return push_opening(out, opening_distance, distance);
     }
     Ok(())
 }
@@ -174,7 +185,7 @@ fn push_late(
         return out.push_str(", which had not committed");
     }
     if update != writer {
-        write!(out, ". {writer} follows {update}")?;
+        write!(out, ". {writer} comes after {update} in every serial order")?;
     }
     push_deed(out, reason, query)
 }
@@ -226,7 +237,7 @@ fn push_rest(out: &mut String, rest: Rest) -> Result<(), AllocError> {
     if rest.events > 0 {
         out.push_str(joint)?;
         push_count(out, rest.events, " event", " events")?;
-        out.push_str(" of those below")?;
+        out.push_str(" of the transactions below")?;
         push_off_reads(out, rest.off_reads)?;
         joint = "; ";
     }
@@ -251,14 +262,16 @@ fn order_sentence(order: Order) -> &'static str {
     }
 }
 
-/// Appends what a charge for several reads is, or nothing if there is none.
-fn push_repeats(out: &mut String, arrows: &[Arrow<'_>]) -> Result<(), AllocError> {
-    if arrows.iter().any(|arrow| arrow.reads() > 1) {
-        return out.push_str(
-            "A charge for several reads of an item is the difference times their number.",
-        );
+/// Appends what a charge is, that both ends of an arrow have the same amount, and what limits bound, or nothing if no charge is
+/// drawn.
+fn push_charges(out: &mut String, arrows: &[Arrow<'_>]) -> Result<(), AllocError> {
+    if arrows.is_empty() {
+        return Ok(());
     }
-    Ok(())
+    push_charge_rule(out)?;
+    out.push_str(
+        " Each is counted at both ends of its arrow: the limit of a query bounds what it is charged, that of an update what it adds to all queries.",
+    )
 }
 
 /// An item with its weight.
@@ -443,7 +456,7 @@ fn push_sentences(
     push_omissions(&mut words, scene, bands)?;
     push_lines(alloc, lines, LineClass::Sentence, &words, letters)?;
     words.clear();
-    push_repeats(&mut words, &scene.arrows)?;
+    push_charges(&mut words, &scene.arrows)?;
     push_lines(alloc, lines, LineClass::Sentence, &words, letters)?;
     words.clear();
     push_weights(&mut words, &weights_of(alloc, &scene.arrows, bands)?)?;

@@ -17,8 +17,8 @@ mod traces;
 pub use part::Part;
 pub use relevance::{NearestPlacement, relevant_updates};
 pub use sentences::{
-    OffReads, off_reads, push_nearest_moment, push_strict, push_summands, push_verdict,
-    sentences_of,
+    OffReads, off_reads, opening_distance, push_charge_rule, push_nearest_moment, push_opening,
+    push_strict, push_summands, push_verdict, sentences_of,
 };
 pub use subject::Audited;
 pub use sum_errors::sum_error;

@@ -2,8 +2,9 @@
 //!
 //! The causes of the reads that are off come first, the farthest read first. The cause of a read is one update: the writer of
 //! the value that was read, if it is not before the nearest placement, or else the writer of the value there. Updates that
-//! explain charges of the causes follow, and then those that were charged most. Timeline and picture use this one rule, so
-//! that both show the same updates. Rejected: a separate rule for each, by charges and by items: a reader then searches the
+//! explain charges of the causes follow, and then those that were charged most. The three that were charged most are named
+//! in a picture, so they have a place before: a lane, or a box after the causes of the two farthest reads. Timeline and
+//! picture use this one rule, so that both show the same updates. Rejected: a separate rule for each, by charges and by items: a reader then searches the
 //! updates of one in the other.
 
 use crate::trace::{ObservedRead, QueryTrace};

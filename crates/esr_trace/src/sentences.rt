@@ -152,6 +152,13 @@ fn push_charges(
     push_rest(out, charges.len())
 }
 
+/// Appends what a charge is.
+pub fn push_charge_rule(out: &mut String) -> Result<(), AllocError> {
+    out.push_str(
+        "A charge is |change of a value| x weight x reads of the item by the query, and is always added, even if the value moves back.",
+    )
+}
+
 /// Appends the charges of the query, its limit, and the updates that were charged, the greatest sums first.
 fn push_charge_sentence(
     alloc: Global,
@@ -172,7 +179,11 @@ fn push_charge_sentence(
         out.push_str(", without a limit")?;
     }
     push_charges(out, audited, &trace.sums_by_update(alloc)?)?;
-    out.push('.')
+    if audited.finding.import == 0 {
+        return out.push('.');
+    }
+    out.push_str(". ")?;
+    push_charge_rule(out)
 }
 
 /// Returns the updates that a strict query had to follow.
@@ -192,12 +203,45 @@ pub fn push_strict(
     alloc: Global,
     out: &mut String,
     audited: &Audited<'_>,
+    trace: &QueryTrace,
 ) -> Result<(), AllocError> {
     if !must_follow(audited) {
         return Ok(());
     }
     let seen = updates_seen(alloc, audited)?;
-    push_predecessors(out, audited, &seen)
+    push_predecessors(out, audited, &seen)?;
+    let opening = opening_distance(alloc, audited.history, trace)?;
+    push_opening(out, opening, audited.finding.distance)
+}
+
+/// Returns the distance of a query from the opening values.
+pub fn opening_distance(
+    alloc: Global,
+    history: &History<Weighted>,
+    trace: &QueryTrace,
+) -> Result<u64, AllocError> {
+    let opening = NearestPlacement::after(alloc, history, &[])?;
+    let mut distance = 0u64;
+    for observed in &trace.observed_reads {
+        let off = opening
+            .distance(history, observed)
+            .saturating_mul(observed.count);
+        distance = distance.saturating_add(off);
+    }
+    Ok(distance)
+}
+
+/// Appends how far a strict query is from the opening values, which are excluded, if that is less than its distance.
+pub fn push_opening(out: &mut String, opening: u64, distance: u64) -> Result<(), AllocError> {
+    if opening >= distance {
+        return Ok(());
+    }
+    if opening == 0 {
+        return out.push_str(" So are the opening values, which would fit exactly.");
+    }
+    out.push_str(" So are the opening values, which would be off by only ")?;
+    push_number(out, opening)?;
+    out.push('.')
 }
 
 /// Appends the names of the updates that a strict query had to follow.
@@ -403,7 +447,7 @@ fn push_sentence(
         Sentence::Nearest => push_nearest_moment(alloc, out, audited, trace),
         Sentence::Charge => push_charge_sentence(alloc, out, audited, trace),
         Sentence::Absent => push_all_absent(alloc, out, audited, trace),
-        Sentence::Strict => push_strict(alloc, out, audited),
+        Sentence::Strict => push_strict(alloc, out, audited, trace),
     }
 }
 
