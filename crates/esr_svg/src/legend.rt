@@ -57,7 +57,7 @@ const KEY_WIDTH: u32 = 230;
 /// Returns the meaning of a key.
 fn words_of(key: Key) -> &'static str {
     match key {
-        Key::Read => "value that it read",
+        Key::Read => "equal to what was read",
         Key::Again => "read more than once",
         Key::Other => "other value",
         Key::Several => "values that are not drawn",
@@ -66,7 +66,7 @@ fn words_of(key: Key) -> &'static str {
         Key::Writes => "down to what it wrote",
         Key::Off => "read that is off",
         Key::AnotherFits => "one is off, another fits",
-        Key::TransientRead => "read, but did not last",
+        Key::TransientRead => "read, then replaced or undone",
         Key::Before => "update before the line",
         Key::After => "update after the line",
         Key::Must => "has to be before the line",

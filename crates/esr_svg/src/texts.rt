@@ -178,7 +178,7 @@ fn push_fitting(
         if lane.segments.iter().any(has_fitting) {
             sentences.push(String::from_str(
                 alloc,
-                "Of values that are not drawn, those counted as read equal a value that it read.",
+                "A count such as (2 read) is of values that equal one that was read.",
             )?)?;
             return Ok(());
         }
@@ -197,7 +197,7 @@ fn push_deciding(
     }
     let mut words = String::from_str(
         alloc,
-        "At another place of the line these lanes would be less far off, but ",
+        "At another place of the line some of these items would be less far off, but ",
     )?;
     push_names(&mut words, deciding)?;
     words.push_str(" would be farther off.")?;
@@ -205,12 +205,13 @@ fn push_deciding(
     Ok(())
 }
 
-/// Returns whether an update after the line is drawn.
-fn has_later(scene: &Scene<'_>) -> bool {
+/// Returns how many updates after the line are drawn.
+fn count_later(scene: &Scene<'_>) -> usize {
     scene
         .updates
         .iter()
-        .any(|update| update.slot > scene.query_slot)
+        .filter(|update| update.slot > scene.query_slot)
+        .count()
 }
 
 /// Adds the sentence on why the updates after the line are there, if any are drawn.
@@ -219,14 +220,16 @@ fn push_later(
     sentences: &mut Vec<String>,
     scene: &Scene<'_>,
 ) -> Result<(), AllocError> {
-    if !has_later(scene) {
-        return Ok(());
-    }
+    let (updates, they) = match count_later(scene) {
+        0 => return Ok(()),
+        1 => ("update", "it"),
+        _ => ("updates", "any of them"),
+    };
     let query = scene.query_name;
     let mut words = String::new(alloc);
     write!(
         words,
-        "The updates after the line committed before {query} too: with any of them before the line, {query} would be off by as much or more."
+        "The {updates} after the line committed before {query} too: with {they} before the line, {query} would be off by as much or more."
     )?;
     sentences.push(words)?;
     Ok(())

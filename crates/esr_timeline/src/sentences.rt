@@ -90,7 +90,11 @@ fn push_nearest(out: &mut String, nearest: Option<Nearest<'_>>) -> Result<(), Al
         )?;
     }
     push_state(out, nearest)?;
-    out.push('.')
+    out.push('.')?;
+    if nearest.updates > 0 && nearest.updates < nearest.committed {
+        out.push_str(" Others that committed earlier may be left out.")?;
+    }
+    Ok(())
 }
 
 /// Appends what the distance of a query is the sum of, or nothing if it is exact.
@@ -209,8 +213,8 @@ fn push_farthest(out: &mut String, farthest: Option<Farthest<'_>>) -> Result<(),
     let Some(farthest) = farthest else {
         return Ok(());
     };
-    let Farthest { query, item, .. } = farthest;
-    write!(out, "Farthest read of {query}: {item} in step ")?;
+    let item = farthest.item;
+    write!(out, "Most off is the read of {item} in step ")?;
     push_number(out, farthest.step)?;
     let writer = farthest.writer;
     if !writer.is_empty() {
@@ -270,7 +274,7 @@ fn push_charges(out: &mut String, arrows: &[Arrow<'_>]) -> Result<(), AllocError
     }
     push_charge_rule(out)?;
     out.push_str(
-        " Each is counted at both ends of its arrow: the limit of a query bounds what it is charged, that of an update what it adds to all queries.",
+        " Each charge is counted at both ends of its arrow: the limit of a query bounds what it is charged, that of an update what it adds to all queries.",
     )
 }
 

@@ -155,7 +155,7 @@ fn push_charges(
 /// Appends what a charge is.
 pub fn push_charge_rule(out: &mut String) -> Result<(), AllocError> {
     out.push_str(
-        "A charge is |change of a value| x weight x reads of the item by the query, and is always added, even if the value moves back.",
+        "A charge is |change| x weight x reads: for a change of an item that the query has read, or for an uncommitted value when it reads it. No charge is taken back.",
     )
 }
 
