@@ -4,7 +4,8 @@ use Rattle.esr_history.specs.declared.back_links.Facts.{Facts}
 use Rattle.esr_history.specs.BackLinks.{begin_place, ended_txn, last_place, facts_by, facts_of}
 use Rattle.esr_history.specs.Events.{BeginRecord, kind_of, begin_record}
 use Rattle.esr_history.specs.Machine.{DistanceFunction, Schedule, accepted_in}
-use Rattle.esr_history.specs.Outcomes.{TxnOutcome, outcome_of}
+use Rattle.esr_history.specs.declared.event.TxnOutcome.{TxnOutcome}
+use Rattle.esr_history.specs.Outcomes.{outcome_of}
 use Rattle.esr_order.proofs.Commits.{facts_none}
 use Rattle.esr_engine.specs.Accounts.{charged_to, account_from, account_of}
 
