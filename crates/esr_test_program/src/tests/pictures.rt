@@ -26,25 +26,33 @@ pub const BANK: &str = "item checking 500\n\
         commit report\n";
 
 /// The picture of the bank, without the first line, the style and the legend.
-static BANK_DRAWN: [&str; 18] = [
+static BANK_DRAWN: [&str; 26] = [
     "<title id='report-title'>Audit of report</title>\n",
     "<desc id='report-desc'>Off by 100, charged 100. In order: [report], transfer. savings: read 1,600, off by 100 from its place. checking: read 500, as at its place.</desc>\n",
     "<text class='h' x='20' y='28'>report: off by 100, charged 100</text>\n",
     "<text class='q' x='20' y='50'>What report read was never a consistent state.</text>\n",
     "<text class='q' x='20' y='70'>The nearest state, before all updates, differs by 100</text>\n",
     "<text class='q' x='20' y='90'>in one read.</text>\n",
-    "<text class='q' x='20' y='110'>Charged 100 of its limit of 200: transfer 100.</text>\n",
-    "<path class='d' d='M290 162V288'/>\n",
-    "<g><title>transfer wrote checking 400, savings 1,600; it is after the line</title><rect class='a' x='248' y='134' width='84' height='28' rx='6'/><text class='m' x='290' y='153' text-anchor='middle'>transfer</text></g>\n",
-    "<text class='m n' x='20' y='206'>savings</text><text class='m g' x='20' y='224'>read 1,600</text><rect class='j' x='20' y='231' width='96' height='6'></rect><rect class='i' x='20' y='231' width='96' height='6'><title>savings has 100 % of the distance</title></rect><path class='v' d='M140 212H286'><title>savings is 1,500, which was not read</title></path><rect class='p' x='144' y='188' width='44' height='15'/><text class='m o' x='146' y='199'>1,500</text>\n",
-    "<path class='t' d='M290 203V221'/><path class='u' d='M294 212H456'><title>savings is 1,600, as read</title></path><rect class='p' x='298' y='188' width='44' height='15'/><text class='m o' x='300' y='199'>1,600</text>\n",
-    "<text class='m n' x='20' y='282'>checking</text><text class='m g' x='20' y='300'>read 500</text><path class='u' d='M140 288H286'><title>checking is 500, as read</title></path><rect class='p' x='144' y='264' width='36' height='15'/><text class='m o' x='146' y='275'>500</text>\n",
-    "<path class='t' d='M290 279V297'/><path class='v' d='M294 288H456'><title>checking is 400, which was not read</title></path><rect class='p' x='298' y='264' width='36' height='15'/><text class='m o' x='300' y='275'>400</text>\n",
-    "<path class='w' marker-end='url(#report-tip)' d='M136 368H460'/><text class='q' x='20' y='372'>serial order</text><text class='q' x='136' y='386'>before all updates</text><text class='q' x='460' y='386' text-anchor='end'>after all of them</text>\n",
-    "<path class='l' d='M212 128V336'><title>the nearest placement of report</title></path>\n",
-    "<text class='m n' x='212' y='352' text-anchor='middle'>report</text>\n",
-    "<circle class='c' cx='212' cy='212' r='5'/><rect class='p' x='220' y='225' width='92' height='15'/><text class='m r o' x='222' y='236'>off by 100</text>\n",
-    "<rect class='p' x='220' y='301' width='60' height='15'/><text class='m g o' x='222' y='312'>as read</text>\n",
+    "<text class='q' x='20' y='110'>Charged 100 of its limit of 200: transfer 100. A charge</text>\n",
+    "<text class='q' x='20' y='130'>is |change| x weight x reads: for a change of an item</text>\n",
+    "<text class='q' x='20' y='150'>that the query has read, or for an uncommitted value</text>\n",
+    "<text class='q' x='20' y='170'>when it reads it. No charge is taken back.</text>\n",
+    "<path class='d' d='M290 222V348'/>\n",
+    "<g><title>transfer wrote checking 400, savings 1,600; it is after the line</title><rect class='a' x='248' y='194' width='84' height='28' rx='6'/><text class='m' x='290' y='213' text-anchor='middle'>transfer</text></g>\n",
+    "<text class='m n' x='20' y='266'>savings</text><text class='m r' x='20' y='284'>read 1,600</text><rect class='j' x='20' y='291' width='96' height='6'></rect><rect class='i' x='20' y='291' width='96' height='6'><title>savings has 100 % of the distance</title></rect><path class='v' d='M140 272H286'><title>savings is 1,500, which was not read</title></path><rect class='p' x='144' y='248' width='44' height='15'/><text class='m o' x='146' y='259'>1,500</text>\n",
+    "<path class='t' d='M290 263V281'/><path class='u' d='M294 272H456'><title>savings is 1,600, as read</title></path><rect class='p' x='298' y='248' width='44' height='15'/><text class='m o' x='300' y='259'>1,600</text>\n",
+    "<text class='m n' x='20' y='342'>checking</text><text class='m g' x='20' y='360'>read 500</text><path class='u' d='M140 348H286'><title>checking is 500, as read</title></path><rect class='p' x='144' y='324' width='36' height='15'/><text class='m o' x='146' y='335'>500</text>\n",
+    "<path class='t' d='M290 339V357'/><path class='v' d='M294 348H456'><title>checking is 400, which was not read</title></path><rect class='p' x='298' y='324' width='36' height='15'/><text class='m o' x='300' y='335'>400</text>\n",
+    "<path class='w' marker-end='url(#report-tip)' d='M136 428H460'/><text class='q' x='20' y='432'>serial order</text><text class='q' x='136' y='446'>before all updates</text><text class='q' x='460' y='446' text-anchor='end'>after all of them</text>\n",
+    "<path class='l' d='M212 188V396'><title>the nearest placement of report</title></path>\n",
+    "<text class='m n' x='212' y='412' text-anchor='middle'>report</text>\n",
+    "<circle class='c' cx='212' cy='272' r='5'/><rect class='p' x='220' y='285' width='92' height='15'/><text class='m r o' x='222' y='296'>off by 100</text>\n",
+    "<rect class='p' x='220' y='361' width='60' height='15'/><text class='m g o' x='222' y='372'>as read</text>\n",
+    "<text class='q' x='20' y='470'>The update after the line committed before report too:</text>\n",
+    "<text class='q' x='20' y='490'>with it before the line, report would be off by as much</text>\n",
+    "<text class='q' x='20' y='510'>or more.</text>\n",
+    "<text class='q' x='20' y='530'>At 1 other place of the line in this order report would</text>\n",
+    "<text class='q' x='20' y='550'>be off by as much; the first is drawn.</text>\n",
 ];
 
 /// An update, and a report that reads nothing.
@@ -102,7 +110,7 @@ fn little_is_drawn(rt: HostRuntime) {
     let texts = [
         "q: off by 6, charged 6</text>",
         ">weight 3</text>",
-        "read 7</text><text class='m g' x='20' y='240'>and 9</text>",
+        "read 7</text><text class='m r' x='20' y='300'>and 9</text>",
         ">off by 2 x 3 = 6</text>",
     ];
     has(&rt, rt.alloc(), TWICE, "q", &texts);
@@ -212,8 +220,8 @@ fn count(alloc: Global, script: &str, text: &str) -> usize {
     written.matches(text).count()
 }
 
-/// Few updates are all drawn; of many, those that bound the visible part of the lanes: here three, with the lane
-/// whose value is as read and keeps the line from the end, where the other one would be exact.
+/// Few updates are all drawn; of many, those that bound the visible part of the lanes and the three that were charged most: here
+/// four, with the lane whose value is as read and keeps the line from the end, where the other one would be exact.
 #[test]
 fn of_many_updates_the_bounding_ones_are_drawn(rt: HostRuntime) {
     let lanes = ("class='m n' x='20'", 3);
@@ -224,9 +232,9 @@ fn of_many_updates_the_bounding_ones_are_drawn(rt: HostRuntime) {
         &[("height='28'", 8), lanes, ("Not drawn", 0)],
     );
     let of_many = [
-        ("height='28'", 3),
+        ("height='28'", 4),
         lanes,
-        ("Not drawn: 27 more updates.", 1),
+        ("Not drawn: 26 more updates.", 1),
         (">off by 28<", 1),
         ("At another place of the line", 0),
     ];
