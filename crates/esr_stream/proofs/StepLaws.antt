@@ -1,10 +1,10 @@
 -- The effect of an update on the states of items is a step of the amounts.
-use Rattle.std.proofs.Common.{All, ◌≡◌, ℕ, zero, suc, ℤ, ◌+◌, ◌<◌, ◌≤◌, Bool, true, false, cond, ◌&&◌, ◌||◌, eqb, List, [], ◌∷◌, ◌++◌, length, length-append, filter, map, sum_by, refl, sym, ap, ◌∙◌, subst, inl, inr, arith, ◌⊎◌, nat_lt, eq-eqb}
+use Rattle.std.proofs.Common.{All, ◌≡◌, ℕ, zero, suc, ℤ, ◌+◌, ◌<◌, ◌≤◌, Bool, true, false, cond, ◌&&◌, ◌||◌, eqb, List, [], ◌∷◌, length, filter, map, sum_by, refl, sym, ap, ◌∙◌, subst, inl, inr, arith, ◌⊎◌, nat_lt, eq-eqb}
 use Rattle.std.specs.List.{range_with_len, list_any, AllByRecursion}
 use Rattle.std.proofs.lemmas.Bool.{cases_eq, and_parts, or_cases, ltb-true, true≢false}
 use Rattle.std.proofs.lemmas.List.{length-map}
 use Rattle.std.proofs.lemmas.List.Sums.{sum_by-cons}
-use Rattle.esr_items.specs.Values.{value_at, IsValue}
+use Rattle.esr_items.specs.Values.{IsValue}
 use Rattle.std.proofs.lemmas.List.Elements.{All-from_recursion, recursion_from_All}
 use Rattle.esr_history.proofs.WithinRanges.{legal_within_ranges}
 use Rattle.esr_order.proofs.Lists.{of_map}

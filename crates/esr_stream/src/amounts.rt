@@ -5,7 +5,7 @@
 //! order, each with the cost of the version that it overwrites. Then the *sweep* visits the updates from the last to the first.
 //! The last version of each item gets its cost as its amount. For each update, the sum of the amounts of the versions that it
 //! writes is distributed over the versions that it overwrites, in proportion to their costs. If these costs add up to less than
-//! that sum, the update has an *excess*, and a breadth-first search (`search`) looks for an earlier version that can take it.
+//! that sum, the update has an *excess*, and searches (`search`) look for earlier versions that can take it.
 //!
 //! The search works in the flow network with all arcs reversed. It goes from an update to the writer of a version that the
 //! update overwrites, if this version has residual capacity (its amount is less than its cost). It also goes from an update to
@@ -17,9 +17,10 @@
 //!
 //! A version takes 16 bytes. Until the sweep has passed it, the field `amount` holds the cost of the version that it overwrites;
 //! afterwards, its own amount. So a search computes the costs on its path again. All stored costs and amounts include the
-//! offset. A version also records the writer and the residual capacity of the version that it overwrites. So listing a version
-//! does not access the version that it overwrites, and a search reads only the versions of the updates that it visits, which are
-//! adjacent. Rejected: separate lists of costs, amounts, writers and links, which take 28 bytes, and are filled one after another.
+//! offset. A version also records the writer of the version that it overwrites, whether that version has residual capacity, and
+//! whether a read of it has had a loan. So listing a version does not access the version that it overwrites, and a search reads
+//! only the versions of the updates that it visits, which are adjacent. Rejected: separate lists of costs, amounts, writers and
+//! links, which take 28 bytes, and are filled one after another.
 ghost use Rattle.std.specs.Prelude.{◌<◌, All, length};
 ghost use Rattle.esr_items.specs.Values.{IsValue};
 
@@ -30,8 +31,8 @@ use esr_items::{ItemId, Metric};
 use esr_order::Access;
 use std::alloc::{AllocError, Global};
 
-/// The id of no version. An id is an index in `ProposedAmounts::versions` and takes 31 bits.
-pub const NONE: u32 = u32::MAX >> 1;
+/// The id of no version. An id is an index in `ProposedAmounts::versions` and takes 30 bits.
+pub const NONE: u32 = u32::MAX >> 2;
 
 /// The position in commit order of no update.
 pub const NOBODY: u16 = u16::MAX;
@@ -41,8 +42,9 @@ pub const NOBODY: u16 = u16::MAX;
 pub struct Version {
     /// Its amount. Before the sweep has passed it: the cost of the version that it overwrites.
     pub amount: u64,
-    /// Twice the id of the version that it overwrites (`NONE` for an opening value and for an unused version), plus 1 if the sweep
-    /// has passed it and the amount of the version that it overwrites is less than the cost.
+    /// Four times the id of the version that it overwrites (`NONE` for an opening value and for an unused version), plus 2 if a
+    /// read of that version has ever had a loan, plus 1 if the sweep has passed it and the amount of that version is less than the
+    /// cost.
     link: u32,
     /// The position in commit order of the update that wrote the version that it overwrites; `NOBODY` for an opening value.
     pub overwritten_writer: u16,
@@ -53,7 +55,7 @@ pub struct Version {
 /// An unused version, without an amount.
 const UNUSED: Version = Version {
     amount: 0,
-    link: NONE << 1,
+    link: NONE << 2,
     overwritten_writer: NOBODY,
     overwriter: NOBODY,
 };
@@ -61,13 +63,18 @@ const UNUSED: Version = Version {
 impl Version {
     /// Returns the id of the version that it overwrites, or `NONE`.
     pub fn overwritten(self) -> u32 {
-        self.link >> 1
+        self.link >> 2
     }
 
     /// Returns whether the sweep has passed it and the version that it overwrites has residual capacity: its amount is less than
     /// its cost.
     pub fn can_increase_overwritten(self) -> bool {
         self.link & 1 == 1
+    }
+
+    /// Returns whether a read of the version that it overwrites may have a loan.
+    pub fn may_repay(self) -> bool {
+        self.link & 2 == 2
     }
 
     /// Returns the version with another amount.
@@ -84,6 +91,14 @@ impl Version {
         }
     }
 
+    /// Returns the version with the fact that a read of the version that it overwrites has had a loan.
+    fn with_loan(self) -> Version {
+        Version {
+            link: self.link | 2,
+            ..self
+        }
+    }
+
     /// Returns the version with its overwriter.
     fn with_overwriter(self, overwriter: u16) -> Version {
         Version { overwriter, ..self }
@@ -92,7 +107,7 @@ impl Version {
 
 /// Returns the link of a version that overwrites another one, and has no residual capacity yet.
 fn link_to(overwritten: u32) -> u32 {
-    overwritten.min(NONE) << 1
+    overwritten.min(NONE) << 2
 }
 
 /// The current version of an item: while the versions are listed, the last one; during the sweep, the one that is current at
@@ -346,7 +361,7 @@ impl ProposedAmounts {
     /// Stores the amounts of the reads, and lowers the amounts of the versions by the raises, since each is now the amount
     /// before all readers.
     pub fn store_reads(&mut self) {
-        for r in 0..to_u32_or_max(self.reads.reads.len()) {
+        for r in 0..to_u32_or_max(self.reads.len()) {
             let Some(read) = self.reads.get(r) else {
                 return;
             };
@@ -521,14 +536,25 @@ impl ProposedAmounts {
         self.set_residual(self.overwriting(id, overwriter), true);
     }
 
-    /// Increases the amount of the version that a version overwrites, if the sweep has passed both. `cost` is that of the
-    /// overwritten version, plus the offset.
-    pub fn increase_overwritten(&mut self, id: u32, more: u64, cost: u64) {
+    /// Increases the amount of the version that a version overwrites, if the sweep has passed both. `has_residual` says whether it
+    /// can increase further.
+    pub fn increase_overwritten(&mut self, id: u32, more: u64, has_residual: bool) {
         let overwritten = self.version(id).overwritten();
         let version = self.version(overwritten);
         let amount = version.amount.saturating_add(more);
         self.set_version(overwritten, version.with_amount(amount));
-        self.set_residual(id, amount < cost);
+        self.set_residual(id, has_residual);
+    }
+
+    /// Adds to the loan of a read.
+    pub fn borrow(&mut self, r: u32, more: u64) {
+        let Some(read) = self.reads.get(r) else {
+            return;
+        };
+        self.reads.add_loan(r, more);
+        let id = self.overwriting(read.version, read.overwriter);
+        let overwriting = self.version(id);
+        self.set_version(id, overwriting.with_loan());
     }
 
     /// Distributes the amounts of the versions that an update writes over those that it overwrites. Returns the excess.

@@ -11,10 +11,8 @@ use crate::items::{ItemState, costs_of, fits_if, sum_of};
 use crate::pass::start;
 use crate::query::AuditedQuery;
 use crate::reads::OFFSET;
-use crate::rounds::{
-    MarkedPrefix, RoundEnd, copy_of, first_marks, is_prefix_marked, mark_least, round,
-};
-use crate::search::propose_amounts;
+use crate::rounds::{MarkedPrefix, copy_of, first_marks, mark_least};
+use crate::sweep::propose_amounts;
 use esr_history::{History, TxnId};
 use esr_items::Metric;
 use esr_order::Index;
@@ -135,46 +133,6 @@ fn least_from<M: Metric>(
     Ok(Some(Least { distance, before }))
 }
 
-/// Starts from the states at the position `from`, before which all updates are marked. Returns the least distance of the query,
-/// if the amounts prove it.
-fn find_from<M: Metric>(
-    alloc: Global,
-    query: &AuditedQuery<M>,
-    from: usize,
-    proposed: &ProposedAmounts,
-    start_states: Vec<ItemState>,
-    worth: u64,
-    needs_round: bool,
-    marks: &mut [bool],
-) -> Result<Option<Least>, AllocError>
-    requires mandatory_within { length (must query.now.schedule query.now.query) ≤ from }
-    requires from { from ≤ length (updates_of query.now) }
-    requires marks { length marks.old ≡ length (updates_of query.now) }
-    requires prefix_marked { IsPrefixMarked from marks.old }
-    requires start_states { (ms : List Bool) → IsPrefixMarked from ms
-        → AreStates (cost_in M.distance_by query.now) query.now.schedule query.now.query from ms start_states.items }
-    requires forced_and_closed { AreForcedAndClosed (length query.now.schedule.opening) (cost_in M.distance_by query.now)
-        query.now.schedule query.now.query worth marks.old }
-    ensures { IfOk result (λ found. IfSome found (λ l. IsNearestPlacement M.distance_by query.now.schedule query.now.query l.distance
-        (map (λ t. t.0) l.before.items))) }
-{
-    let found = mark_least(
-        alloc,
-        query,
-        from,
-        proposed,
-        start_states,
-        worth,
-        needs_round,
-        marks,
-    )?;
-    let Some(prefix) = found else {
-        return Ok(None);
-    };
-    let MarkedPrefix { len, states } = prefix;
-    least_from(alloc, query, len, &states, worth, marks)
-}
-
 /// Returns whether a transaction ended before an index. No contract constrains it.
 fn has_ended<M: Metric>(history: &History<M>, t: TxnId, place: u64) -> bool {
     match history.facts(t) {
@@ -202,8 +160,7 @@ fn checkpoint_of<M: Metric>(query: &AuditedQuery<M>, first: usize) -> usize
     first
 }
 
-/// Starts from the states after the mandatory updates. Returns the least distance of the query, if the amounts prove it. Later
-/// rounds start at the checkpoint if all updates before it are marked.
+/// Starts from the states after the mandatory updates. Returns the least distance of the query, if the amounts prove it.
 fn find_with_amounts<M: Metric>(
     alloc: Global,
     query: &AuditedQuery<M>,
@@ -226,37 +183,21 @@ fn find_with_amounts<M: Metric>(
         return Ok(None);
     };
     let checkpoint = checkpoint_of(query, first);
-    let found = round(
+    let found = mark_least(
         alloc,
         query,
         first,
         checkpoint,
         proposed,
-        &start_states,
-        marks,
-    )?;
-    let Some(end) = found else {
-        return Ok(None);
-    };
-    let RoundEnd {
-        has_added,
-        checkpoint_states: states,
-    } = end;
-    if is_prefix_marked(marks, checkpoint) {
-        return find_from(
-            alloc, query, checkpoint, proposed, states, worth, has_added, marks,
-        );
-    }
-    find_from(
-        alloc,
-        query,
-        first,
-        proposed,
         start_states,
         worth,
-        has_added,
         marks,
-    )
+    )?;
+    let Some(prefix) = found else {
+        return Ok(None);
+    };
+    let MarkedPrefix { len, states } = prefix;
+    least_from(alloc, query, len, &states, worth, marks)
 }
 
 /// Returns the least distance of a committed query, if the proposed amounts prove it.

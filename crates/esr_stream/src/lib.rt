@@ -1,7 +1,7 @@
 //! Audits by streaming: computes the least distance of a query, and the smallest closed set of updates whose cost is this
 //! distance, in passes over the updates in commit order.
 //!
-//! The method builds neither a closure problem nor a flow network. First, `propose_amounts` (`search`) proposes an amount for
+//! The method builds neither a closure problem nor a flow network. First, `propose_amounts` (`sweep`) proposes an amount for
 //! each version of an item. No contract constrains these amounts. Then a *pass*
 //! (`pass`) caps each amount at the cost of its version. Every closed set contains the *mandatory* updates: of a strict query,
 //! the updates that committed before it began; of any other query, none.
@@ -12,10 +12,10 @@
 //! every closed set costs at least S (`esr_bound`). The pass also marks updates that every closed set of cost S contains, and
 //! `close` adds their predecessors. If `close` adds an update, another pass follows. It keeps all marks, and it need not visit
 //! all updates again: if all updates before a position are marked, every closed set of cost S contains them, as if they were
-//! mandatory. So the pass starts from the states at that position, provided that their amounts sum to at least S. After 33
-//! passes (`MAX_ROUNDS` and the first one) the search ends without a result. When `close` adds none and the cost of the marked
-//! set equals S, the marked set is the result. In each other case `least_of` returns `None`, and the caller solves the closure
-//! problem of the query (`esr_audit`).
+//! mandatory. So the pass starts from the states at that position, provided that their amounts sum to at least S. If the passes
+//! visit more than 64 times as many updates as there are (`MAX_VISITS_PER_UPDATE`), the search ends without a result. When
+//! `close` adds none and the cost of the marked set equals S, the marked set is the result. In each other case `least_of`
+//! returns `None`, and the caller solves the closure problem of the query (`esr_audit`).
 //!
 //! The proof covers the pass and not the proposed amounts, so the proposal can change without a new theorem. Costs are never
 //! negative, but amounts can be. So costs and amounts are stored as unsigned integers with `OFFSET` added. Rejected design: a
@@ -25,13 +25,17 @@
 
 mod amounts;
 mod closing;
+mod frontier;
 mod items;
+mod labels;
 mod least;
 mod pass;
 mod query;
 mod reads;
+mod residual;
 mod rounds;
 mod search;
+mod sweep;
 mod update_reads;
 
 pub use least::{Least, least_of};

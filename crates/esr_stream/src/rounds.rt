@@ -1,8 +1,18 @@
 //! Rounds. A round makes a pass, which marks updates that every closed set of least cost contains, and then marks the
 //! predecessors of marked updates. So the marked set is closed after each round. The rounds end when one adds no predecessor.
-//! A round starts at the first update that was not marked when the previous round started, because its pass leaves the states
-//! at that position. Rejected: all rounds from the same position, which visits the marked updates after it in each round.
-ghost use Rattle.std.specs.Prelude.{◌≡◌, ◌≤◌, ◌<◌, ◌+◌, ℕ, Bool, List, IfOk, IfSome, length, map, nat_lt, true};
+//!
+//! Between two rounds, every closed set of cost `worth` contains all marked updates, all updates before a position are marked,
+//! and the states at this position are known. The next pass starts there. It keeps the states at its *checkpoint*. If all updates
+//! before the checkpoint are marked at the end of the round, later passes start at the checkpoint. The first checkpoint is a
+//! guess of the caller; each later one is the first update that is not marked when its round starts.
+//!
+//! The number of visits is bounded, and not the number of rounds, since a round that starts late is short.
+//!
+//! Rejected: all rounds from the same position, which visits the marked updates after it in each round. Also rejected: a pass
+//! that ends before the last update. Its marks are sound only if no later update decreases the sum of the amounts less the
+//! loans, starting from the states at its end. The contract of `pass` does not relate these states to those that a pass over
+//! all updates has there.
+ghost use Rattle.std.specs.Prelude.{◌≡◌, ◌≤◌, ◌<◌, ◌+◌, ◌⊎◌, ℕ, Bool, List, IfOk, IfSome, length, map, nat_lt, true};
 ghost use Rattle.esr_history.specs.Queries.{must};
 ghost use Rattle.esr_bound.specs.Amounts.{AreForced, mark_at};
 ghost use Rattle.esr_stream.specs.Passes.{IsPrefixMarked, AreForcedAndClosed, AreStates, IsPassInvariant, StayMarked, amounts_sum, loans_sum};
@@ -16,8 +26,8 @@ use crate::query::AuditedQuery;
 use esr_items::Metric;
 use std::alloc::{AllocError, Global};
 
-/// The maximum number of rounds in `mark_least`.
-const MAX_ROUNDS: usize = 32;
+/// The maximum number of updates that the passes of `mark_least` visit, divided by the number of all updates plus 1.
+const MAX_VISITS_PER_UPDATE: usize = 64;
 
 /// Returns `count` marks, of which the first `set_count` are set.
 ///
@@ -48,13 +58,20 @@ pub fn copy_of(alloc: Global, states: &[ItemState]) -> Result<Vec<ItemState>, Al
     Ok(copy)
 }
 
+/// A position before which all updates are marked, and the states there.
+#[derive(Drop)]
+pub struct MarkedPrefix {
+    pub len: usize,
+    pub states: Vec<ItemState>,
+}
+
 /// The result of a round.
 #[derive(Drop)]
 pub struct RoundEnd {
     /// Whether the round marked a predecessor that was not marked before.
     pub has_added: bool,
-    /// The states at the checkpoint. They are valid only if all updates before it are marked.
-    pub checkpoint_states: Vec<ItemState>,
+    /// The checkpoint, where later rounds can start if all updates before it are marked.
+    pub checkpoint: MarkedPrefix,
 }
 
 /// Makes one pass over the updates from a position on. Returns the states at the checkpoint, where later rounds can start, or
@@ -123,8 +140,9 @@ pub fn round<M: Metric>(
     ensures forced_and_closed { IfOk result (λ found. IfSome found (λ _. (worth : ℕ) → worth + loans_sum start_states.now ≤ amounts_sum start_states.now
         → AreForced (length query.now.schedule.opening) (cost_in M.distance_by query.now) query.now.schedule query.now.query worth marks.old
         → AreForcedAndClosed (length query.now.schedule.opening) (cost_in M.distance_by query.now) query.now.schedule query.now.query worth marks.new)) }
-    ensures checkpoint { IfOk result (λ found. IfSome found (λ end. (ms : List Bool) → IsPrefixMarked checkpoint ms
-        → AreStates (cost_in M.distance_by query.now) query.now.schedule query.now.query checkpoint ms end.checkpoint_states.items)) }
+    ensures checkpoint_len { IfOk result (λ found. IfSome found (λ end. end.checkpoint.len ≡ checkpoint)) }
+    ensures checkpoint { IfOk result (λ found. IfSome found (λ end. (ms : List Bool) → IsPrefixMarked end.checkpoint.len ms
+        → AreStates (cost_in M.distance_by query.now) query.now.schedule query.now.query end.checkpoint.len ms end.checkpoint.states.items)) }
 {
     let _invariant = query.history(); // brings the invariant into the proof
     let mut states = copy_of(alloc, start_states)?;
@@ -136,19 +154,37 @@ pub fn round<M: Metric>(
     let has_added = close(alloc, query, prefix, marks)?;
     Ok(Some(RoundEnd {
         has_added,
-        checkpoint_states: kept,
+        checkpoint: MarkedPrefix {
+            len: checkpoint,
+            states: kept,
+        },
     }))
 }
 
-/// A position before which all updates are marked, and the states there.
-#[derive(Drop)]
-pub struct MarkedPrefix {
-    pub len: usize,
-    pub states: Vec<ItemState>,
+/// Returns the later one of two prefixes if all updates before it are marked, and the earlier one otherwise.
+fn later_prefix(earlier: MarkedPrefix, later: MarkedPrefix, marks: &[bool]) -> MarkedPrefix
+    ensures { (result ≡ earlier) ⊎ ((result ≡ later) × IsPrefixMarked later.len marks.now) }
+{
+    if is_prefix_marked(marks, later.len) {
+        later
+    } else {
+        earlier
+    }
 }
 
-/// Makes rounds until one adds no predecessor, the first from the position `from`. If it returns a prefix, the marked set is
-/// closed, every closed set of cost `worth` contains it, and no closed set costs less. The caller tests whether it costs `worth`.
+/// Returns whether the sum of the amounts less the loans is at least `worth`.
+fn is_worth(states: &[ItemState], worth: u64) -> bool
+    ensures { result ≡ true → worth + loans_sum states.now ≤ amounts_sum states.now }
+{
+    match sum_of(states) {
+        Some(sum) => worth <= sum,
+        None => false,
+    }
+}
+
+/// Makes rounds from the position `from` on until one adds no predecessor. The first one has its checkpoint at `checkpoint`. If
+/// it returns a prefix, the marked set is closed, every closed set of cost `worth` contains it, and no closed set costs less.
+/// The caller tests whether it costs `worth`.
 ///
 /// # Errors
 ///
@@ -157,20 +193,20 @@ pub fn mark_least<M: Metric>(
     alloc: Global,
     query: &AuditedQuery<M>,
     from: usize,
+    checkpoint: usize,
     proposed: &ProposedAmounts,
     start_states: Vec<ItemState>,
     worth: u64,
-    needs_round: bool,
     marks: &mut [bool],
 ) -> Result<Option<MarkedPrefix>, AllocError>
     requires mandatory_within { length (must query.now.schedule query.now.query) ≤ from }
-    requires from { from ≤ length (updates_of query.now) }
+    requires from_le_checkpoint { from ≤ checkpoint }
+    requires checkpoint_le_len { checkpoint ≤ length (updates_of query.now) }
     requires marks { length marks.old ≡ length (updates_of query.now) }
     requires prefix_marked { IsPrefixMarked from marks.old }
     requires start_states { (ms : List Bool) → IsPrefixMarked from ms
         → AreStates (cost_in M.distance_by query.now) query.now.schedule query.now.query from ms start_states.items }
-    requires forced_and_closed { AreForcedAndClosed (length query.now.schedule.opening)
-        (cost_in M.distance_by query.now) query.now.schedule query.now.query worth marks.old }
+    requires forced { AreForced (length query.now.schedule.opening) (cost_in M.distance_by query.now) query.now.schedule query.now.query worth marks.old }
     ensures len { length marks.new ≡ length marks.old }
     ensures within { IfOk result (λ found. IfSome found (λ prefix. prefix.len ≤ length (updates_of query.now))) }
     ensures prefix_marked { IfOk result (λ found. IfSome found (λ prefix. IsPrefixMarked prefix.len marks.new)) }
@@ -180,32 +216,38 @@ pub fn mark_least<M: Metric>(
         AreForcedAndClosed (length query.now.schedule.opening) (cost_in M.distance_by query.now) query.now.schedule query.now.query worth marks.new)) }
 {
     let _invariant = query.history(); // brings the invariant into the proof
-    let mut needs_round = needs_round;
-    let mut len = from;
-    let mut states = start_states;
-    for _round in 0..MAX_ROUNDS {
-        if !needs_round {
-            return Ok(Some(MarkedPrefix { len, states }));
-        }
-        let Some(sum) = sum_of(&states) else {
+    let mut prefix = MarkedPrefix {
+        len: from,
+        states: start_states,
+    };
+    let mut checkpoint = checkpoint;
+    // plus 1, since also an audit without updates needs a round
+    let mut visits_left = MAX_VISITS_PER_UPDATE.saturating_mul(marks.len().saturating_add(1));
+    for _round in 0..visits_left {
+        let visits = marks.len().saturating_sub(prefix.len);
+        if visits_left < visits || !is_worth(&prefix.states, worth) {
             return Ok(None);
-        };
-        if sum < worth {
-            return Ok(None);
         }
-        let checkpoint = marked_prefix_len(marks, len);
-        let found = round(alloc, query, len, checkpoint, proposed, &states, marks)?;
+        visits_left = visits_left.saturating_sub(visits);
+        let found = round(
+            alloc,
+            query,
+            prefix.len,
+            checkpoint,
+            proposed,
+            &prefix.states,
+            marks,
+        )?;
         let Some(end) = found else {
             return Ok(None);
         };
-        needs_round = end.has_added;
-        len = checkpoint;
-        states = end.checkpoint_states;
+        prefix = later_prefix(prefix, end.checkpoint, marks);
+        if !end.has_added {
+            return Ok(Some(prefix));
+        }
+        checkpoint = marked_prefix_len(marks, prefix.len);
     }
-    if needs_round {
-        return Ok(None);
-    }
-    Ok(Some(MarkedPrefix { len, states }))
+    Ok(None)
 }
 
 /// Returns the length of the longest marked prefix, if the first `first` updates are marked.

@@ -1,466 +1,431 @@
-//! Sweeps over the updates in reverse order. If an update has an excess, searches for earlier versions that can take it.
-ghost use Rattle.std.specs.Prelude.{◌<◌, All, length};
-ghost use Rattle.esr_items.specs.Values.{IsValue};
-
-use crate::amounts::{NOBODY, NONE, ProposedAmounts, to_u16_or_nobody};
+//! Searches for versions that can take the excess of an update (`amounts`).
+//!
+//! A search starts from an update with an excess, the *source*, and follows residual arcs until it finds a *target*: a version
+//! that the sweep has not passed and that has residual capacity. Each path carries its bottleneck or the rest of the excess,
+//! whichever is less. A search ends when an arc of a path is saturated or the excess is used up. If it finds no target, no later
+//! search can succeed from an update that it has reached, and these updates are *dead*.
+//!
+//! Searches keep what they learn (Koenig and Likhachev, Adaptive A*, AAMAS 2005): each update has a *bound*, which is at most
+//! its distance, the number of arcs from it to the nearest target. The bound of an update that the sweep passes is 1, or 2 if it
+//! has an excess, since then all versions that it overwrites are full. A search expands the updates in the order of the bound
+//! of the whole path: the number of arcs from the source to the update, plus the update's bound. When the search ends, the whole
+//! path has at least `least` arcs through each update that it has expanded. So the bound of the update is at least `least` minus
+//! the number of arcs to it.
+//!
+//! The bounds stay valid since a distance never falls. The sweep only removes targets. A path goes along arcs on which the
+//! distance falls by one, so the arcs that it opens lead from a smaller distance to a larger one. No contract constrains the
+//! amounts, so an invalid bound could only make a path longer, or leave an excess where it is.
+//!
+//! The updates that a search has reached and not yet expanded are in one stack for each bound of the whole path. If an update
+//! leads to one with the same bound of the whole path, the search continues there, and returns to the rest of the arcs only if
+//! that fails. So a search that meets exact bounds visits little more than its path.
+//!
+//! Rejected: breadth-first searches, each of which continues after a path. They visit 3 to 5 times the accesses, since each
+//! explores all updates that are nearer to the source than the target is.
+use crate::amounts::{NOBODY, ProposedAmounts, Version};
+use crate::frontier::{Frontier, NO_ENTRY, Origin, Reached};
+use crate::labels::Labels;
 use crate::query::AuditedQuery;
-use crate::update_reads::UpdateReads;
+use crate::residual::ResidualArc;
+use crate::update_reads::{UpdateRead, UpdateReads};
 use esr_items::{ItemId, Metric};
 use esr_order::Access;
 use std::alloc::{AllocError, Global};
 
-/// The number of accesses after which no further search starts, divided by the number of updates.
-const MAX_VISITS_PER_UPDATE: u64 = 250;
+/// The number of accesses after which no further search starts, divided by the number of updates. The hardest load that was
+/// measured, whose updates write two neighbors in a ring, needs about half of it.
+const MAX_VISITS_PER_UPDATE: u64 = 600;
 
-/// The search number of an update from which no search can succeed.
-const DEAD: u32 = u32::MAX;
-
-/// A residual arc into an update, in the reversed network (`amounts`), with the id of a version.
-#[derive(Clone, Copy, PartialEq, Eq)]
-enum ResidualArc {
-    /// The amount of this version, which the update overwrites, can decrease.
-    Decrease(u32),
-    /// The amount of a version that the update writes can increase. This version overwrites it.
-    Increase(u32),
-    /// The raise by this read of the update can increase.
-    Raise(u32),
-    /// The raise by this read of a version that the update writes can decrease.
-    Lower(u32),
-    /// The loan of this read, of a version that the update overwrites, can increase.
-    Borrow(u32),
-    /// The loan of this read of the update can decrease.
-    Repay(u32),
-}
-
-/// One end of the arc of a version.
-#[derive(Clone, Copy, PartialEq, Eq)]
-enum VersionEnd {
-    /// The update that writes the version.
-    Writer,
-    /// The update that overwrites it.
-    Overwriter,
-}
-
-impl VersionEnd {
-    /// Returns the residual arc from this end of a version to the reader of one of its reads.
-    fn arc_of(self, read: u32) -> ResidualArc {
-        match self {
-            VersionEnd::Writer => ResidualArc::Raise(read),
-            VersionEnd::Overwriter => ResidualArc::Repay(read),
-        }
-    }
-}
-
-/// An update that a breadth-first search has reached.
+/// The end of a scan of an update's arcs.
 #[derive(Clone, Copy)]
-struct Reached {
-    update: u16,
-    /// The index in the queue of the update from which the search reached it.
-    predecessor: u16,
-    /// The arc by which the search reached it.
-    arc: ResidualArc,
+enum Scan {
+    /// All arcs have been followed.
+    Finished,
+    /// An arc leads to an update that is to be expanded next.
+    Paused,
+    /// The version of the update at this index overwrites a target.
+    Target(usize),
 }
 
-/// The end of an augmenting path: an item whose current version has residual capacity, and the index in the queue of the update
-/// that overwrites this version.
+/// An amount that was moved along a path.
 #[derive(Clone, Copy)]
-struct Target {
-    item: ItemId,
-    overwriter: u16,
+struct Routed {
+    amount: u64,
+    /// Whether it saturates an arc of the path.
+    saturates: bool,
 }
 
-/// The state of the searches, which share their memory. Only the updates that the current search has reached have a label (their
-/// element of the queue); each of the others takes four bytes.
+/// The state of the searches, which share their memory.
 #[derive(Drop)]
-struct SearchState {
+pub struct SearchState {
     /// How many more accesses the searches may visit.
     visits_left: u64,
-    /// The number of the current search.
-    search_number: u32,
-    /// The updates that the current search has reached. The first one is the source.
-    queue: Vec<Reached>,
-    /// The index in the queue of the next update to expand.
-    head: u16,
-    /// For each update, the number of the last search that reached it, or `DEAD`.
-    last_search: Vec<u32>,
-}
-
-/// Returns the cost of the version that the `j`-th of these accesses writes, plus the offset, or 0 past the end.
-fn cost_in<M: Metric>(query: &AuditedQuery<M>, accesses: &[Access], j: usize) -> u64
-    requires accesses { All (λ a. a.item.0 < length query.now.schedule.opening) accesses.now }
-    requires values { All (λ a. IsValue a.value) accesses.now }
-{
-    if j < accesses.len() {
-        query.cost(accesses[j].item, accesses[j].value)
-    } else {
-        0
-    }
-}
-
-/// Returns the cost of the version that a version overwrites, plus the offset, or 0 of an opening value.
-fn overwritten_cost<M: Metric>(
-    query: &AuditedQuery<M>,
-    amounts: &ProposedAmounts,
-    id: u32,
-    buffer: &mut Vec<Access>,
-) -> Result<u64, AllocError> {
-    let version = amounts.version(id);
-    let writer = version.overwritten_writer;
-    if query.update_count() <= writer as usize {
-        return Ok(0);
-    }
-    let accesses = query.accesses(writer as usize, buffer)?;
-    let j = version
-        .overwritten()
-        .saturating_sub(amounts.first_version(writer));
-    Ok(cost_in(query, accesses, j as usize))
+    /// What the searches know of the updates.
+    labels: Labels,
+    /// The updates that the current search has reached.
+    frontier: Frontier,
+    /// The residual capacities of the arcs of the current path, from its end.
+    capacities: Vec<u64>,
 }
 
 impl SearchState {
     /// Returns the state before the first search.
-    fn new(alloc: Global, updates: usize) -> Result<SearchState, AllocError> {
+    ///
+    /// # Errors
+    ///
+    /// An allocation failed.
+    pub fn new(alloc: Global, updates: usize) -> Result<SearchState, AllocError> {
         Ok(SearchState {
             visits_left: MAX_VISITS_PER_UPDATE.saturating_mul(updates as u64),
-            search_number: 0,
-            queue: Vec::new(alloc),
-            head: 0,
-            last_search: vec![in alloc; 0u32; updates]?,
+            labels: Labels::new(alloc, updates)?,
+            frontier: Frontier::new(alloc, updates)?,
+            capacities: Vec::new(alloc),
         })
-    }
-
-    /// Enqueues an update, unless this search has reached it or no search can succeed from it.
-    fn enqueue(&mut self, reached: Reached) -> Result<(), AllocError> {
-        let i = reached.update as usize;
-        if i < self.last_search.len() {
-            let last = self.last_search[i];
-            if last != self.search_number && last != DEAD {
-                self.last_search[i] = self.search_number;
-                self.queue.push(reached)?;
-            }
-        }
-        Ok(())
-    }
-
-    /// Expands an update: follows the residual arcs from it. Returns the id of a version of the update that overwrites a current
-    /// version with residual capacity. `source` is the update whose excess is to be routed.
-    fn expand(
-        &mut self,
-        amounts: &ProposedAmounts,
-        source: u16,
-        update: u16,
-    ) -> Result<Option<u32>, AllocError> {
-        let versions = amounts.versions_of(update);
-        self.visits_left = self.visits_left.saturating_sub(versions.len() as u64);
-        let mut id = amounts.first_version(update);
-        for version in versions {
-            if version.can_increase_overwritten() {
-                let writer = version.overwritten_writer;
-                if writer == NOBODY || writer < source {
-                    return Ok(Some(id));
-                }
-                self.enqueue(Reached {
-                    update: writer,
-                    predecessor: self.head,
-                    arc: ResidualArc::Increase(id),
-                })?;
-            }
-            if version.overwriter != NOBODY && 0 < version.amount {
-                self.enqueue(Reached {
-                    update: version.overwriter,
-                    predecessor: self.head,
-                    arc: ResidualArc::Decrease(id),
-                })?;
-            }
-            self.expand_readers(&amounts.reads, id, VersionEnd::Writer)?;
-            let overwritten = version.overwritten();
-            self.expand_readers(&amounts.reads, overwritten, VersionEnd::Overwriter)?;
-            id = id.saturating_add(1);
-        }
-        self.expand_reads(&amounts.reads, update)?;
-        Ok(None)
-    }
-
-    /// Enqueues readers of a version at one end of which the expanded update is. If the update writes the version, each read can
-    /// raise its amount, which lowers what the update itself has to carry. If it overwrites the version, each loan can decrease.
-    fn expand_readers(
-        &mut self,
-        reads: &UpdateReads,
-        version: u32,
-        end: VersionEnd,
-    ) -> Result<(), AllocError> {
-        let mut next = reads.first_of_version(version);
-        for _ in 0..reads.reads.len() {
-            let Some(read) = reads.get(next) else {
-                return Ok(());
-            };
-            self.visits_left = self.visits_left.saturating_sub(1);
-            if end == VersionEnd::Writer || 0 < read.loan {
-                self.enqueue(Reached {
-                    update: read.reader,
-                    predecessor: self.head,
-                    arc: end.arc_of(next),
-                })?;
-            }
-            next = reads.next_of(read);
-        }
-        Ok(())
-    }
-
-    /// Enqueues the overwriters of the versions that an update reads, and the writers of those whose amount it raises.
-    fn expand_reads(&mut self, reads: &UpdateReads, update: u16) -> Result<(), AllocError> {
-        let mut r = reads.first_of_update(update);
-        for read in reads.of_update(update) {
-            self.visits_left = self.visits_left.saturating_sub(1);
-            if read.overwriter != NOBODY {
-                self.enqueue(Reached {
-                    update: read.overwriter,
-                    predecessor: self.head,
-                    arc: ResidualArc::Borrow(r),
-                })?;
-            }
-            if 0 < read.raise && read.writer != NOBODY {
-                self.enqueue(Reached {
-                    update: read.writer,
-                    predecessor: self.head,
-                    arc: ResidualArc::Lower(r),
-                })?;
-            }
-            r = r.saturating_add(1);
-        }
-        Ok(())
     }
 
     /// Begins a search from an update with an excess.
     fn begin(&mut self, source: u16) -> Result<(), AllocError> {
-        self.search_number = self.search_number.saturating_add(1);
-        self.queue.clear();
-        self.head = 0;
-        self.enqueue(Reached {
-            update: source,
-            predecessor: 0,
-            arc: ResidualArc::Decrease(NONE),
-        })
+        self.labels.begin_search();
+        let bound = self.labels.reach(source).unwrap_or(1);
+        self.frontier.begin(source, bound)
     }
 
-    /// Returns the end of the next augmenting path of the current search.
-    fn next_target<M: Metric>(
+    /// Follows an arc from a reached update to another update, unless this search has reached that one already or it is dead.
+    /// Returns whether the search continues there at once.
+    fn follow(
         &mut self,
-        query: &AuditedQuery<M>,
+        origin: Origin,
+        arc: ResidualArc,
+        update: u16,
+    ) -> Result<bool, AllocError> {
+        let Some(bound) = self.labels.reach(update) else {
+            return Ok(false);
+        };
+        self.frontier.push(origin, arc, update, bound)
+    }
+
+    /// Follows the arcs of a version that an update writes, and of the version that it overwrites. Returns whether the search
+    /// continues at one of them at once.
+    fn follow_version(
+        &mut self,
+        reads: &UpdateReads,
+        origin: Origin,
+        id: u32,
+        version: Version,
+    ) -> Result<bool, AllocError> {
+        let mut continues = false;
+        if version.can_increase_overwritten() {
+            let arc = ResidualArc::Increase(id);
+            continues = self.follow(origin, arc, version.overwritten_writer)?;
+        }
+        if version.overwriter != NOBODY && 0 < version.amount {
+            let arc = ResidualArc::Decrease(id);
+            continues |= self.follow(origin, arc, version.overwriter)?;
+        }
+        if reads.is_empty() {
+            return Ok(continues);
+        }
+        continues |= self.follow_readers(reads, origin, id)?;
+        if version.may_repay() {
+            continues |= self.follow_borrowers(reads, origin, version.overwritten())?;
+        }
+        Ok(continues)
+    }
+
+    /// Follows the arcs to the readers of a version that an update writes: each can raise its amount, which lowers what the update
+    /// itself has to carry.
+    fn follow_readers(
+        &mut self,
+        reads: &UpdateReads,
+        origin: Origin,
+        version: u32,
+    ) -> Result<bool, AllocError> {
+        let mut continues = false;
+        let mut next = reads.first_of_version(version);
+        for _ in 0..reads.len() {
+            let Some(read) = reads.get(next) else {
+                return Ok(continues);
+            };
+            self.visits_left = self.visits_left.saturating_sub(1);
+            continues |= self.follow(origin, ResidualArc::Raise(next), read.reader)?;
+            next = reads.next_of(read);
+        }
+        Ok(continues)
+    }
+
+    /// Follows the arcs to the readers with a loan from a version that an update overwrites: each loan can decrease.
+    fn follow_borrowers(
+        &mut self,
+        reads: &UpdateReads,
+        origin: Origin,
+        version: u32,
+    ) -> Result<bool, AllocError> {
+        let mut continues = false;
+        let mut next = reads.first_of_version(version);
+        for _ in 0..reads.len() {
+            let Some(read) = reads.get(next) else {
+                return Ok(continues);
+            };
+            self.visits_left = self.visits_left.saturating_sub(1);
+            if 0 < read.loan {
+                continues |= self.follow(origin, ResidualArc::Repay(next), read.reader)?;
+            }
+            next = reads.next_of(read);
+        }
+        Ok(continues)
+    }
+
+    /// Follows the arcs of a read of an update: to the overwriter of the version, and to the writer if the read raises its amount.
+    fn follow_read(
+        &mut self,
+        origin: Origin,
+        r: u32,
+        read: UpdateRead,
+    ) -> Result<bool, AllocError> {
+        let mut continues = false;
+        if read.overwriter != NOBODY {
+            continues = self.follow(origin, ResidualArc::Borrow(r), read.overwriter)?;
+        }
+        if 0 < read.raise && read.writer != NOBODY {
+            continues |= self.follow(origin, ResidualArc::Lower(r), read.writer)?;
+        }
+        Ok(continues)
+    }
+
+    /// Follows the arcs of a reached update from its place on, until one leads to a target or to an update that is to be expanded
+    /// next. `source` is the update whose excess is to be routed.
+    fn scan(
+        &mut self,
         amounts: &ProposedAmounts,
         source: u16,
-        buffer: &mut Vec<Access>,
-    ) -> Result<Option<Target>, AllocError> {
-        for _ in 0..self.last_search.len() {
-            let Some(reached) = self.queue.get(self.head as usize).copied() else {
-                return Ok(None);
-            };
-            if let Some(id) = self.expand(amounts, source, reached.update)? {
-                if query.update_count() <= reached.update as usize {
-                    return Ok(None);
-                }
-                let accesses = query.accesses(reached.update as usize, buffer)?;
-                let j = id.saturating_sub(amounts.first_version(reached.update));
-                return Ok(self.target_at(accesses, j as usize));
+        entry: u16,
+    ) -> Result<Scan, AllocError> {
+        let Some(reached) = self.frontier.get(entry) else {
+            return Ok(Scan::Finished);
+        };
+        let origin = Origin {
+            entry,
+            steps: reached.steps,
+        };
+        let versions = amounts.versions_of(reached.update);
+        let place = reached.place as usize;
+        let mut id = amounts
+            .first_version(reached.update)
+            .saturating_add(reached.place as u32);
+        for j in place..versions.len() {
+            self.visits_left = self.visits_left.saturating_sub(1);
+            let version = versions[j];
+            if version.can_increase_overwritten()
+                && is_unpassed(version.overwritten_writer, source)
+            {
+                self.frontier.set_place(entry, j);
+                return Ok(Scan::Target(j));
             }
-            self.skip();
+            if self.follow_version(&amounts.reads, origin, id, version)? {
+                self.frontier.set_place(entry, j.saturating_add(1));
+                return Ok(Scan::Paused);
+            }
+            id = id.saturating_add(1);
         }
-        Ok(None)
+        if amounts.reads.is_empty() {
+            return Ok(Scan::Finished);
+        }
+        self.scan_reads(&amounts.reads, origin, reached, versions.len())
     }
 
-    /// Returns the target at the item of the `j`-th of these accesses, which are those of the update that was expanded last.
-    fn target_at(&self, accesses: &[Access], j: usize) -> Option<Target> {
-        let access = accesses.get(j)?;
-        Some(Target {
-            item: access.item,
-            overwriter: self.head,
-        })
+    /// Follows the arcs of the reads of a reached update. `versions` is the number of its versions.
+    fn scan_reads(
+        &mut self,
+        reads: &UpdateReads,
+        origin: Origin,
+        reached: Reached,
+        versions: usize,
+    ) -> Result<Scan, AllocError> {
+        let own = reads.of_update(reached.update);
+        let first = (reached.place as usize).saturating_sub(versions);
+        let mut r = reads
+            .first_of_update(reached.update)
+            .saturating_add(u32::try_from(first).unwrap_or(u32::MAX));
+        for j in first..own.len() {
+            self.visits_left = self.visits_left.saturating_sub(1);
+            if self.follow_read(origin, r, own[j])? {
+                self.frontier
+                    .set_place(origin.entry, versions.saturating_add(j).saturating_add(1));
+                return Ok(Scan::Paused);
+            }
+            r = r.saturating_add(1);
+        }
+        Ok(Scan::Finished)
     }
 
-    /// Continues the search after the update that was expanded last.
-    fn skip(&mut self) {
-        self.head = self.head.saturating_add(1);
+    /// Raises the bounds of the expanded updates after a search that found a target.
+    fn raise_bounds(&mut self) {
+        let mut entry = self.frontier.expanded();
+        for _ in 0..self.frontier.len() {
+            let Some(reached) = self.frontier.get(entry) else {
+                return;
+            };
+            let bound = self.frontier.bound_of(reached.steps);
+            self.labels.raise_bound(reached.update, bound);
+            entry = reached.next;
+        }
     }
 
     /// Makes later searches skip the updates that this search reached: none of them leads to a target.
     fn exclude_reached(&mut self) {
-        for reached in &self.queue {
-            let i = reached.update as usize;
-            if i < self.last_search.len() {
-                self.last_search[i] = DEAD;
+        for entry in 0..self.frontier.len() {
+            if let Some(reached) = self.frontier.get(entry) {
+                self.labels.exclude(reached.update);
             }
         }
     }
 
-    /// Returns the update at an index of the queue, unless it is the source.
-    fn reached(&self, i: u16) -> Option<Reached> {
-        if i == 0 {
-            return None;
-        }
-        self.queue.get(i as usize).copied()
-    }
-
-    /// Returns the bottleneck of the path from the source to the target, at most `limit`.
+    /// Returns the bottleneck of the path from the source to a reached update, and stores the residual capacities of its arcs.
     fn bottleneck<M: Metric>(
-        &self,
+        &mut self,
         query: &AuditedQuery<M>,
         amounts: &ProposedAmounts,
-        target: Target,
-        limit: u64,
+        end: u16,
         buffer: &mut Vec<Access>,
     ) -> Result<u64, AllocError> {
-        let mut least = limit;
-        let mut i = target.overwriter;
-        for _ in 0..self.queue.len() {
-            let Some(reached) = self.reached(i) else {
+        self.capacities.clear();
+        let mut least = u64::MAX;
+        let mut entry = end;
+        for _ in 0..self.frontier.len() {
+            let Some(reached) = self.frontier.get(entry) else {
                 return Ok(least);
             };
-            let residual = match reached.arc {
-                ResidualArc::Decrease(id) => amounts.version(id).amount,
-                ResidualArc::Increase(id) => {
-                    let cost = overwritten_cost(query, amounts, id, buffer)?;
-                    let overwritten = amounts.version(id).overwritten();
-                    cost.saturating_sub(amounts.version(overwritten).amount)
-                }
-                ResidualArc::Raise(_) | ResidualArc::Borrow(_) => limit,
-                ResidualArc::Lower(r) => amounts.reads.get(r).map_or(0, |read| read.raise),
-                ResidualArc::Repay(r) => amounts.reads.get(r).map_or(0, |read| read.loan),
-            };
-            least = least.min(residual);
-            i = reached.predecessor;
-        }
-        Ok(0)
-    }
-
-    /// Augments along the path from the source to the target by an amount.
-    fn augment<M: Metric>(
-        &self,
-        query: &AuditedQuery<M>,
-        amounts: &mut ProposedAmounts,
-        target: Target,
-        amount: u64,
-        buffer: &mut Vec<Access>,
-    ) -> Result<(), AllocError> {
-        let mut i = target.overwriter;
-        for _ in 0..self.queue.len() {
-            let Some(reached) = self.reached(i) else {
-                return Ok(());
-            };
-            match reached.arc {
-                ResidualArc::Decrease(id) => amounts.decrease(id, amount, reached.update),
-                ResidualArc::Increase(id) => {
-                    let cost = overwritten_cost(query, amounts, id, buffer)?;
-                    amounts.increase_overwritten(id, amount, cost);
-                }
-                ResidualArc::Raise(r) => amounts.reads.add_raise(r, amount),
-                ResidualArc::Lower(r) => amounts.reads.subtract_raise(r, amount),
-                ResidualArc::Borrow(r) => amounts.reads.add_loan(r, amount),
-                ResidualArc::Repay(r) => amounts.reads.subtract_loan(r, amount),
+            if reached.predecessor == NO_ENTRY {
+                return Ok(least);
             }
-            i = reached.predecessor;
+            let capacity = reached.arc.capacity(query, amounts, buffer)?;
+            self.capacities.push(capacity)?;
+            least = least.min(capacity);
+            entry = reached.predecessor;
         }
-        Ok(())
+        Ok(least)
     }
 
-    /// Moves an amount along the path to a target: as much as the path and the target can take, at most `excess`. Returns the
-    /// amount, and skips the update that the path ends at if the path can take no more.
+    /// Augments along the path from the source to a reached update by an amount, after `bottleneck`.
+    fn augment(&self, amounts: &mut ProposedAmounts, end: u16, amount: u64) {
+        let mut entry = end;
+        for capacity in &self.capacities {
+            let Some(reached) = self.frontier.get(entry) else {
+                return;
+            };
+            reached
+                .arc
+                .augment(amounts, reached.update, amount, *capacity);
+            entry = reached.predecessor;
+        }
+    }
+
+    /// Moves an amount along the path to a target, which the `j`-th version of a reached update overwrites: as much as the path and
+    /// the target can take, at most `excess`.
     fn route<M: Metric>(
         &mut self,
         query: &AuditedQuery<M>,
         amounts: &mut ProposedAmounts,
-        target: Target,
+        entry: u16,
+        j: usize,
         excess: u64,
         buffer: &mut Vec<Access>,
-    ) -> Result<u64, AllocError> {
-        let limit = amounts.residual(target.item).min(excess);
-        let amount = self.bottleneck(query, amounts, target, limit, buffer)?;
-        if amount < limit {
-            self.skip();
-        }
-        if 0 < amount {
-            amounts.add_to_current(target.item, amount);
-            self.augment(query, amounts, target, amount, buffer)?;
-        }
-        Ok(amount)
+    ) -> Result<Routed, AllocError> {
+        let bottleneck = self.bottleneck(query, amounts, entry, buffer)?;
+        let Some(item) = self.target_item(query, entry, j, buffer)? else {
+            return Ok(Routed {
+                amount: 0,
+                saturates: true,
+            });
+        };
+        let amount = amounts.residual(item).min(excess).min(bottleneck);
+        amounts.add_to_current(item, amount);
+        self.augment(amounts, entry, amount);
+        Ok(Routed {
+            amount,
+            saturates: bottleneck <= amount,
+        })
     }
 
-    /// Moves as much of the excess of an update as possible along augmenting paths to earlier versions. A search continues after
-    /// each path; if it has found any, another one follows, since the paths have opened and closed arcs.
-    fn route_excess<M: Metric>(
+    /// Returns the item of the `j`-th access of a reached update.
+    fn target_item<M: Metric>(
+        &self,
+        query: &AuditedQuery<M>,
+        entry: u16,
+        j: usize,
+        buffer: &mut Vec<Access>,
+    ) -> Result<Option<ItemId>, AllocError> {
+        let Some(reached) = self.frontier.get(entry) else {
+            return Ok(None);
+        };
+        if query.update_count() <= reached.update as usize {
+            return Ok(None);
+        }
+        let accesses = query.accesses(reached.update as usize, buffer)?;
+        Ok(accesses.get(j).map(|access| access.item))
+    }
+
+    /// Searches for targets from an update with an excess. Returns the rest of the excess for which another search may find one.
+    fn search<M: Metric>(
         &mut self,
         query: &AuditedQuery<M>,
         amounts: &mut ProposedAmounts,
         source: u16,
         excess: u64,
         buffer: &mut Vec<Access>,
-    ) -> Result<(), AllocError> {
-        let mut excess = excess;
-        let mut found = 0u64;
+    ) -> Result<u64, AllocError> {
+        let mut left = excess;
         self.begin(source)?;
+        for _ in 0..self.visits_left {
+            let Some(entry) = self.frontier.next_entry() else {
+                self.exclude_reached();
+                return Ok(0);
+            };
+            match self.scan(amounts, source, entry)? {
+                Scan::Paused => {}
+                Scan::Finished => self.frontier.finish(entry),
+                Scan::Target(j) => {
+                    let routed = self.route(query, amounts, entry, j, left, buffer)?;
+                    left = left.saturating_sub(routed.amount);
+                    if left == 0 || routed.saturates {
+                        self.raise_bounds();
+                        self.frontier.clear();
+                        return Ok(left);
+                    }
+                }
+            }
+        }
+        self.frontier.clear();
+        Ok(0)
+    }
+
+    /// Moves as much as possible of the excess of the update that the sweep has just passed to earlier versions.
+    ///
+    /// # Errors
+    ///
+    /// An allocation failed.
+    pub fn route_excess<M: Metric>(
+        &mut self,
+        query: &AuditedQuery<M>,
+        amounts: &mut ProposedAmounts,
+        update: u16,
+        excess: u64,
+        buffer: &mut Vec<Access>,
+    ) -> Result<(), AllocError> {
+        // the versions that it overwrites are full, so no target is one arc away
+        self.labels.raise_bound(update, 2);
+        let mut excess = excess;
         for _ in 0..self.visits_left {
             if excess == 0 || self.visits_left == 0 {
                 return Ok(());
             }
-            let next = self.next_target(query, amounts, source, buffer)?;
-            match next {
-                Some(target) => {
-                    let amount = self.route(query, amounts, target, excess, buffer)?;
-                    excess = excess.saturating_sub(amount);
-                    found = found.saturating_add(amount);
-                }
-                None if found == 0 => {
-                    self.exclude_reached();
-                    return Ok(());
-                }
-                None => {
-                    found = 0;
-                    self.begin(source)?;
-                }
-            }
+            excess = self.search(query, amounts, update, excess, buffer)?;
         }
         Ok(())
     }
 }
 
-/// Distributes the amounts of the updates from the last one back to the position `first`.
-fn sweep<M: Metric>(
-    alloc: Global,
-    query: &AuditedQuery<M>,
-    first: usize,
-    amounts: &mut ProposedAmounts,
-) -> Result<(), AllocError> {
-    let mut searches = SearchState::new(alloc, query.update_count())?;
-    let mut buffer = Vec::new(alloc);
-    for i in (first..query.update_count()).rev() {
-        let update = to_u16_or_nobody(i);
-        let accesses = query.accesses(i, &mut buffer)?;
-        let excess = amounts.distribute(accesses, update);
-        if 0 < excess {
-            searches.route_excess(query, amounts, update, excess, &mut buffer)?;
-        }
-    }
-    Ok(())
-}
-
-/// Returns proposed amounts: for the opening values by item, then for each access of the updates in commit order. The sweep
-/// goes back to the position `first`.
-///
-/// # Errors
-///
-/// An allocation failed.
-pub fn propose_amounts<M: Metric>(
-    alloc: Global,
-    query: &AuditedQuery<M>,
-    first: usize,
-) -> Result<ProposedAmounts, AllocError> {
-    let mut buffer = Vec::new(alloc);
-    let mut amounts = ProposedAmounts::opening(alloc, query)?;
-    for i in 0..query.update_count() {
-        let accesses = query.accesses(i, &mut buffer)?;
-        amounts.push_update(query, accesses, to_u16_or_nobody(i))?;
-    }
-    amounts.init_amounts(alloc)?;
-    sweep(alloc, query, first, &mut amounts)?;
-    amounts.store_current();
-    amounts.store_reads();
-    Ok(amounts)
+/// Returns whether the sweep has not passed the writer of a version, when it is at the update `source`.
+fn is_unpassed(writer: u16, source: u16) -> bool {
+    writer == NOBODY || writer < source
 }

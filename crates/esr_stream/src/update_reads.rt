@@ -34,7 +34,7 @@ pub struct UpdateRead {
 /// The reads of the updates in commit order.
 #[derive(Drop)]
 pub struct UpdateReads {
-    pub reads: Vec<UpdateRead>,
+    reads: Vec<UpdateRead>,
     /// The index of the first read of each update, and the end of the last update's reads.
     starts: Vec<u32>,
     /// For each version, the index of a read of it, or `NONE`. Empty if no update reads.
@@ -94,6 +94,16 @@ impl UpdateReads {
             }
         }
         Ok(())
+    }
+
+    /// Returns the number of reads.
+    pub fn len(&self) -> usize {
+        self.reads.len()
+    }
+
+    /// Returns whether no update reads.
+    pub fn is_empty(&self) -> bool {
+        self.reads.is_empty()
     }
 
     /// Returns the index of the first read of an update.
