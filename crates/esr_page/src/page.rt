@@ -218,7 +218,7 @@ fn push_overview(
     push_charts(alloc, out, all, &audits.found)?;
     let rows = in_order(alloc, &all.rows)?;
     push_table(out, &rows)?;
-    push_updates(alloc, out, recording)
+    push_updates(alloc, out, recording, &all.rows)
 }
 
 /// Returns the queries in the order of the table: the committed ones with the greatest distance first, then the others.

@@ -1,6 +1,8 @@
 //! The table of the updates that were charged, by the amount that each exported, with the number of reports that it
-//! exported to. A machine replays the history, because a history keeps only what each query imported in all.
+//! exported to. A machine replays the history, because a history keeps only what each query imported in all. If no query
+//! imported anything, no update exported anything, and nothing is replayed.
 
+use crate::rows::QueryRow;
 use crate::table::{MAX_ROWS, push_cell, push_count_of_rows};
 use esr_history::{History, MAX_LIMIT, TxnId};
 use esr_items::Weighted;
@@ -136,12 +138,16 @@ fn push_heading(out: &mut String, count: u64, total: u64) -> Result<(), AllocErr
     )
 }
 
-/// Appends the table of the updates that were charged, if there are any.
+/// Appends the table of the updates that were charged, if there are any. `queries` are all queries.
 pub fn push_updates(
     alloc: Global,
     out: &mut String,
     recording: &Recording<'_>,
+    queries: &[QueryRow<'_>],
 ) -> Result<(), AllocError> {
+    if queries.iter().all(|query| query.charged == 0) {
+        return Ok(());
+    }
     let mut exports = exports_of(alloc, &recording.history)?;
     let rows = rows_of(alloc, &mut exports)?;
     if rows.is_empty() {

@@ -12,5 +12,5 @@ mod events;
 mod json;
 mod view;
 
-pub use charges::{Change, Charge, Charges};
+pub use charges::{Change, Charge, Charges, Excess};
 pub use view::TraceEvents;
