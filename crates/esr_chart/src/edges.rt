@@ -2,7 +2,7 @@
 
 use crate::layout::{Column, GAP, MARGIN, width_of};
 use crate::reads::read_letters;
-use crate::scene::{Action, Arrow, Lane, Mark, weight_letters};
+use crate::scene::{Action, Arrow, Excess, Lane, Mark, weight_letters};
 use esr_text::{letters_of, number_letters};
 use esr_trace::outcome_words;
 use std::alloc::{AllocError, Global};
@@ -39,20 +39,31 @@ fn half_of(letters: usize) -> u32 {
     width_of(letters).div_ceil(2)
 }
 
+/// Returns the letters of `sum 32, limit 12`.
+fn excess_letters(excess: Option<Excess>) -> usize {
+    match excess {
+        Some(excess) => number_letters(excess.sum)
+            .saturating_add(number_letters(excess.limit))
+            .saturating_add(12),
+        None => 0,
+    }
+}
+
 /// Returns the letters below a mark.
 fn value_letters(column: &Column<'_>) -> usize {
     let mark = &column.mark;
     match mark.action {
         Action::Read { .. } => read_letters(column),
         Action::Write { value } => letters_of(value),
-        Action::Blocked { times, .. } => {
+        Action::Blocked { times, excess, .. } => {
             let count = if times > 1 {
                 number_letters(times).saturating_add(8)
             } else {
                 0
             };
             // "limit of " has 9 letters, as "its limit" has.
-            mark.blocker.len().saturating_add(9).saturating_add(count)
+            let blocker = mark.blocker.len().saturating_add(9).saturating_add(count);
+            blocker.max(excess_letters(excess))
         }
         Action::Begin | Action::Commit | Action::Abort => 0,
     }

@@ -15,6 +15,14 @@ pub fn open_centred(out: &mut String, class: &str, x: u32, y: u32) -> Result<(),
     )
 }
 
+/// Appends the start of a text with its right end at x.
+pub fn open_end(out: &mut String, class: &str, x: u32, y: u32) -> Result<(), AllocError> {
+    write!(
+        out,
+        "<text class='{class}' x='{x}' y='{y}' text-anchor='end'>"
+    )
+}
+
 /// Appends the end of a text.
 pub fn close_text(out: &mut String) -> Result<(), AllocError> {
     out.push_str("</text>\n")

@@ -13,7 +13,7 @@ use std::alloc::AllocError;
 /// The style sheet. A page contains timelines and pictures, so their classes have different names.
 ///
 /// Texts: `hd` heading, `nm` name of a lane, `lb` label, `ha` with a halo, `gy` muted, `rd` off, `ch` a charge, `bl` blocked,
-/// `gn` exact. Lanes: `bu` an update, `bq` a query, `op` not ended. Marks: `mr` a read, `mo` a read that is off, `mw` a
+/// `gn` exact. Lanes: `bu` an update, `bo` one that is not in the nearest state, `bq` a query, `op` not ended. Marks: `mr` a read, `mo` a read that is off, `mw` a
 /// write, `mx` a blocked operation. Charges: `ar` an arrow, `er` for a read before commit, `tp` its head. Limits: `lf` the
 /// frame, `lu` the used part. Others: `cn` a lane that continues below, `gd` a guide,
 /// `pp` the background. Layouts: `ts` the element, `tw` the wide layout, `tn` the narrow one.
@@ -30,6 +30,7 @@ text{font:12px sans-serif;fill:#1f2328}\n\
 .gn{fill:#1a7f4b}\n\
 .pp{fill:#fff}\n\
 .bu{fill:#cfe3f7;stroke:#35658f}\n\
+.bo{fill:#eef0f2;stroke:#8a949e}\n\
 .bq{fill:#d8f0e2;stroke:#1a7f4b}\n\
 .op{stroke-dasharray:4 3;fill-opacity:.45}\n\
 .mr{fill:#fff;stroke:#1f2328;stroke-width:2}\n\
@@ -48,7 +49,7 @@ text{font:12px sans-serif;fill:#1f2328}\n\
 .ts{width:390px;max-width:100%;height:auto;aspect-ratio:var(--ratio)}.tw{display:none}.tn{display:inline}}\n\
 @media (prefers-color-scheme:dark){\n\
 text{fill:#e6edf3}.ha{stroke:#0d1117}.gy{fill:#9aa4af}.rd{fill:#ff7b72}.ch{fill:#78b6f5}.bl{fill:#e0a83c}.gn{fill:#4cc47c}.pp{fill:#0d1117}\n\
-.bu{fill:#1d3a57;stroke:#6ea8dc}.bq{fill:#163d29;stroke:#4cc47c}.mr{fill:#0d1117;stroke:#e6edf3}.mo{fill:#0d1117;stroke:#ff7b72}.mw{fill:#e6edf3}\n\
+.bu{fill:#1d3a57;stroke:#6ea8dc}.bo{fill:#22272e;stroke:#7d8792}.bq{fill:#163d29;stroke:#4cc47c}.mr{fill:#0d1117;stroke:#e6edf3}.mo{fill:#0d1117;stroke:#ff7b72}.mw{fill:#e6edf3}\n\
 .mx{stroke:#e0a83c}.ar{stroke:#78b6f5}.tp{fill:#78b6f5}.gd{stroke:#1f262d}.lf{stroke:#68737f}.lu{fill:#58a6f2}.cn{fill:#9aa4af}}\n\
 </style>\n";
 

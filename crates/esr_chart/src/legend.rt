@@ -18,11 +18,13 @@ enum Key {
     Charge,
     EarlyRead,
     Limit,
+    InState,
+    Outside,
     Open,
     Continued,
 }
 
-static KEYS: [Key; 9] = [
+static KEYS: [Key; 11] = [
     Key::Read,
     Key::Off,
     Key::Write,
@@ -30,6 +32,8 @@ static KEYS: [Key; 9] = [
     Key::Charge,
     Key::EarlyRead,
     Key::Limit,
+    Key::InState,
+    Key::Outside,
     Key::Open,
     Key::Continued,
 ];
@@ -39,7 +43,7 @@ fn keys() -> &'static [Key] {
 }
 
 /// The width of a key with its words.
-const KEY_WIDTH: u32 = 216;
+const KEY_WIDTH: u32 = 234;
 
 /// From row to row.
 const ROW: u32 = 20;
@@ -50,10 +54,12 @@ fn words_of(key: Key) -> &'static str {
         Key::Read => "read",
         Key::Off => "read that is off",
         Key::Write => "write",
-        Key::Blocked => "blocked, not executed",
+        Key::Blocked => "refused, not executed",
         Key::Charge => "charge for a change",
         Key::EarlyRead => "charge: read before commit",
         Key::Limit => "used part of the limit",
+        Key::InState => "in the nearest state",
+        Key::Outside => "not in the nearest state",
         Key::Open => "aborted or still active",
         Key::Continued => "continues further down",
     }
@@ -102,6 +108,12 @@ fn is_filled(lane: &Lane<'_>) -> bool {
     has_bar(lane) && lane.charged > 0
 }
 
+/// Returns whether a lane is of a committed update on this side of the nearest placement.
+fn has_side(lane: &Lane<'_>, is_before: bool) -> bool {
+    let is_committed = lane.outcome == TxnOutcome::Committed;
+    is_committed && !lane.is_query() && lane.in_state == Some(is_before)
+}
+
 /// Returns whether a key occurs.
 fn occurs(scene: &Scene<'_>, layout: &Layout<'_>, key: Key) -> bool {
     match key {
@@ -113,6 +125,8 @@ fn occurs(scene: &Scene<'_>, layout: &Layout<'_>, key: Key) -> bool {
             .iter()
             .any(|band| has_charge(scene, band, key)),
         Key::Limit => scene.lanes.iter().any(is_filled),
+        Key::InState => scene.lanes.iter().any(|lane| has_side(lane, true)),
+        Key::Outside => scene.lanes.iter().any(|lane| has_side(lane, false)),
         Key::Open => scene
             .lanes
             .iter()
@@ -177,7 +191,9 @@ fn push_sign(out: &mut String, key: Key, x: u32, y: u32, tip: &str) -> Result<()
             push_rect(out, "lu", x, height, 26, 5)?;
             push_rect(out, "lf", x, top, 26, 10)
         }
-        Key::Open => push_rect(out, "bu op", x, top, 26, 10),
+        Key::InState => push_rect(out, "bu", x, top, 26, 10),
+        Key::Outside => push_rect(out, "bo", x, top, 26, 10),
+        Key::Open => push_rect(out, "bo op", x, top, 26, 10),
         Key::Continued => {
             push_rect(out, "bu", x, top, 15, 10)?;
             push_continued(out, x.saturating_add(17), height)

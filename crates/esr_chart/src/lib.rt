@@ -17,6 +17,7 @@ mod limits;
 mod reads;
 mod scene;
 mod signs;
+mod table;
 mod titles;
 
 pub use bands::push_bands;
@@ -28,6 +29,7 @@ pub use head::{
 pub use layout::{Band, Drawn, Format, Heads, Layout, MARGIN, Spacing, layout_of};
 pub use legend::{legend_height, push_legend};
 pub use scene::{
-    Action, Arrow, Cause, Farthest, Lane, Mark, Mistakes, Nearest, Note, NotedWrite, Order, Reason,
-    Relation, Rest, Scene, Writer,
+    Action, Arrow, Cause, Excess, Farthest, Lane, ListedRead, Mark, Mistakes, Nearest, Note,
+    NotedWrite, Order, Reason, Relation, Rest, Scene, Writer,
 };
+pub use table::{Table, table_width};

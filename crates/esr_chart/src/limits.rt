@@ -9,32 +9,47 @@ use std::alloc::AllocError;
 /// The height of a bar.
 const HEIGHT: u32 = 10;
 
-/// Returns the height of an amount in a bar, at least 3 if there is any.
-fn height_of(amount: u64, limit: u64) -> u32 {
+/// The least height of an amount, in tenths of a pixel.
+const LEAST_TENTHS: u32 = 10;
+
+/// Returns the height of an amount in a bar in tenths of a pixel, to scale, but at least [`LEAST_TENTHS`] if there is any.
+fn tenths_of(amount: u64, limit: u64) -> u32 {
+    let whole = HEIGHT.saturating_mul(10);
     let share = u128::from(amount.min(limit))
-        .saturating_mul(u128::from(HEIGHT))
+        .saturating_mul(u128::from(whole))
         .checked_div(u128::from(limit))
         .unwrap_or(0)
-        .min(u128::from(HEIGHT)) as u32;
-    if amount > 0 { share.max(3) } else { 0 }
+        .min(u128::from(whole)) as u32;
+    if amount > 0 {
+        share.max(LEAST_TENTHS)
+    } else {
+        0
+    }
 }
 
-/// A part of a bar with one height.
+/// A part of a bar with one height, in tenths of a pixel.
 #[derive(Clone, Copy)]
 struct Part {
     start: u32,
     end: u32,
-    height: u32,
+    tenths: u32,
 }
 
 /// Appends a part of a bar.
 fn push_part(out: &mut String, part: Part, top: u32) -> Result<(), AllocError> {
     let width = part.end.saturating_sub(part.start);
-    if part.height == 0 || width == 0 {
+    if part.tenths == 0 || width == 0 {
         return Ok(());
     }
-    let y = top.saturating_add(HEIGHT.saturating_sub(part.height));
-    push_rect(out, "lu", part.start, y, width, part.height)
+    let whole = top.saturating_add(HEIGHT).saturating_mul(10);
+    let edge = whole.saturating_sub(part.tenths);
+    let (y, of_y) = (edge / 10, edge % 10);
+    let (height, of_height) = (part.tenths / 10, part.tenths % 10);
+    let x = part.start;
+    write!(
+        out,
+        "<rect class='lu' x='{x}' y='{y}.{of_y}' width='{width}' height='{height}.{of_height}'/>\n"
+    )
 }
 
 /// Returns the sum of the charges to the query of a lane.
@@ -63,16 +78,16 @@ fn push_parts(
     let mut part = Part {
         start: span.start,
         end: span.start,
-        height: height_of(before, limit),
+        tenths: tenths_of(before, limit),
     };
     for column in &band.columns {
         let arrows = charges_at_or_before(&scene.all_charges, column.mark.place);
-        let height = height_of(charged(arrows, number), limit);
-        if height != part.height && column.x >= span.start && column.x <= span.end {
+        let tenths = tenths_of(charged(arrows, number), limit);
+        if tenths != part.tenths && column.x >= span.start && column.x <= span.end {
             part.end = column.x;
             push_part(out, part, top)?;
             part.start = column.x;
-            part.height = height;
+            part.tenths = tenths;
         }
     }
     part.end = span.end;

@@ -12,26 +12,23 @@ use std::alloc::AllocError;
 pub enum Row {
     /// `read 9`, and its writer unless that has a separate row.
     Value,
-    /// `(of u1)` or `(opening)`.
+    /// `(of u1)`, if the read is off `(of u1, step 57)`, or `(opening)`.
     Writer,
     /// `state 12`, and its writer unless that has a separate row.
     State,
     StateWriter,
     /// `off by 3`.
     Off,
-    /// `u2 wrote in step 57`.
-    Step,
     /// `u2 comes after u1`.
     After,
 }
 
-static ROWS: [Row; 7] = [
+static ROWS: [Row; 6] = [
     Row::Value,
     Row::Writer,
     Row::State,
     Row::StateWriter,
     Row::Off,
-    Row::Step,
     Row::After,
 ];
 
@@ -68,13 +65,19 @@ pub fn has_row(column: &Column<'_>, row: Row) -> bool {
         Row::State => has_state(mark),
         Row::StateWriter => has_state(mark) && are_writers_below(column),
         Row::Off => mark.distance() > 0,
-        Row::Step => mark.has_note && noted_write(mark).is_some(),
         Row::After => noted_write(mark).is_some_and(|write| write.follows.is_some()),
     }
 }
 
 /// Returns the number of rows below a mark after the first one.
 pub fn count_more_rows(column: &Column<'_>) -> u32 {
+    if let Action::Blocked { excess, .. } = column.mark.action {
+        return if excess.is_some() && column.has_label {
+            1
+        } else {
+            0
+        };
+    }
     let mut count = 0u32;
     if matches!(column.mark.action, Action::Read { .. }) && column.has_label {
         for row in all_rows() {
@@ -105,10 +108,14 @@ fn value_there(mark: &Mark<'_>) -> i64 {
     }
 }
 
-/// Returns the letters of a writer: of `(of u1)` or `(opening)`.
-fn writer_letters(writer: Option<Writer<'_>>) -> usize {
+/// Returns the letters of a writer: of `(of u1)`, `(of u1, step 57)` or `(opening)`.
+fn writer_letters(writer: Option<Writer<'_>>, has_step: bool) -> usize {
     match writer {
-        Some(Writer::Update(update)) => update.len().saturating_add(5),
+        Some(Writer::Update(update, step)) if has_step => update
+            .len()
+            .saturating_add(number_letters(step))
+            .saturating_add(12),
+        Some(Writer::Update(update, _)) => update.len().saturating_add(5),
         Some(Writer::Opening) => 9,
         None => 0,
     }
@@ -121,18 +128,9 @@ fn value_letters(column: &Column<'_>, value: i64, writer: Option<Writer<'_>>) ->
         letters
     } else {
         letters
-            .saturating_add(writer_letters(writer))
+            .saturating_add(writer_letters(writer, has_state(&column.mark)))
             .saturating_add(1)
     }
-}
-
-/// Returns the letters of `u1 wrote in step 57`.
-fn step_letters(write: NotedWrite<'_>) -> usize {
-    write
-        .update
-        .len()
-        .saturating_add(number_letters(write.step()))
-        .saturating_add(15)
 }
 
 /// Returns the letters of `u2 comes after u1`.
@@ -150,13 +148,12 @@ fn row_letters(column: &Column<'_>, row: Row) -> usize {
     let mark = &column.mark;
     match row {
         Row::Value => value_letters(column, value_of(mark), mark.writer).saturating_add(5),
-        Row::Writer => writer_letters(mark.writer),
+        Row::Writer => writer_letters(mark.writer, has_state(mark)),
         Row::State => {
             value_letters(column, value_there(mark), mark.state_writer).saturating_add(6)
         }
-        Row::StateWriter => writer_letters(mark.state_writer),
+        Row::StateWriter => writer_letters(mark.state_writer, true),
         Row::Off => number_letters(mark.distance()).saturating_add(7),
-        Row::Step => noted_write(mark).map_or(0, step_letters),
         Row::After => noted_write(mark).map_or(0, after_letters),
     }
 }
@@ -172,10 +169,19 @@ pub fn read_letters(column: &Column<'_>) -> usize {
     letters
 }
 
-/// Appends a writer.
-pub fn push_writer(out: &mut String, writer: Option<Writer<'_>>) -> Result<(), AllocError> {
+/// Appends a writer, and the step of its write if that is asked for.
+pub fn push_writer(
+    out: &mut String,
+    writer: Option<Writer<'_>>,
+    has_step: bool,
+) -> Result<(), AllocError> {
     match writer {
-        Some(Writer::Update(update)) => write!(out, "(of {update})"),
+        Some(Writer::Update(update, step)) if has_step => {
+            write!(out, "(of {update}, step ")?;
+            push_number(out, step)?;
+            out.push(')')
+        }
+        Some(Writer::Update(update, _)) => write!(out, "(of {update})"),
         Some(Writer::Opening) => out.push_str("(opening)"),
         None => Ok(()),
     }
@@ -193,14 +199,7 @@ fn push_value_with(
         return Ok(());
     }
     out.push(' ')?;
-    push_writer(out, writer)
-}
-
-/// Appends the step of the write that explains why a read is off.
-fn push_step(out: &mut String, write: NotedWrite<'_>) -> Result<(), AllocError> {
-    let update = write.update;
-    write!(out, "{update} wrote in step ")?;
-    push_number(out, write.step())
+    push_writer(out, writer, has_state(&column.mark))
 }
 
 /// Appends which charged update the update of a write comes after.
@@ -218,20 +217,16 @@ pub fn push_row(out: &mut String, column: &Column<'_>, row: Row) -> Result<(), A
             out.push_str("read ")?;
             push_value_with(out, column, value_of(mark), mark.writer)
         }
-        Row::Writer => push_writer(out, mark.writer),
+        Row::Writer => push_writer(out, mark.writer, has_state(mark)),
         Row::State => {
             out.push_str("state ")?;
             push_value_with(out, column, value_there(mark), mark.state_writer)
         }
-        Row::StateWriter => push_writer(out, mark.state_writer),
+        Row::StateWriter => push_writer(out, mark.state_writer, true),
         Row::Off => {
             out.push_str("off by ")?;
             push_number(out, mark.distance())
         }
-        Row::Step => match noted_write(mark) {
-            Some(write) => push_step(out, write),
-            None => Ok(()),
-        },
         Row::After => match noted_write(mark) {
             Some(write) => push_after(out, write),
             None => Ok(()),

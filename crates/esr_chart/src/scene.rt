@@ -3,7 +3,7 @@
 use esr_history::TxnId;
 use esr_outcomes::{TxnKind, TxnOutcome};
 use esr_text::number_letters;
-use esr_trace::OffReads;
+use esr_trace::{OffReads, TxnCounts};
 
 /// The maximum number of letters of two amounts in a head.
 const MAX_NOTE: usize = 26;
@@ -22,6 +22,8 @@ pub struct Lane<'a> {
     pub outcome: TxnOutcome,
     /// The distance of a committed query.
     pub distance: Option<u64>,
+    /// Whether an update is before the nearest placement, if the timeline has one.
+    pub in_state: Option<bool>,
 }
 
 impl Lane<'_> {
@@ -55,9 +57,18 @@ pub enum Action {
         value: Option<i64>,
         cause: Cause,
         times: u64,
+        /// The sum that would have exceeded a limit, at the last time.
+        excess: Option<Excess>,
     },
     Commit,
     Abort,
+}
+
+/// A limit, and the sum of charges that would have exceeded it.
+#[derive(Clone, Copy, PartialEq, Eq)]
+pub struct Excess {
+    pub sum: u64,
+    pub limit: u64,
 }
 
 /// The reason why an event was blocked.
@@ -73,7 +84,8 @@ pub enum Cause {
 pub enum Writer<'a> {
     /// None: it is the opening value.
     Opening,
-    Update(&'a str),
+    /// The name of the update, and the step of its write.
+    Update(&'a str, u64),
 }
 
 /// A write that explains the value of a read.
@@ -101,8 +113,8 @@ pub enum Note<'a> {
     /// there.
     Wrote(NotedWrite<'a>),
     /// The read is exact, although the writer of its value is not before the nearest placement: the value is also that of this
-    /// update, or the opening value if there is none.
-    Equals(Option<&'a str>),
+    /// writer.
+    Equals(Writer<'a>),
 }
 
 /// A mark on a lane: an entry of the log.
@@ -128,8 +140,6 @@ pub struct Mark<'a> {
     pub state_writer: Option<Writer<'a>>,
     /// What explains the value of a read, if that needs an explanation.
     pub note: Option<Note<'a>>,
-    /// False if the note need not name the write, since that is drawn.
-    pub has_note: bool,
 }
 
 impl Mark<'_> {
@@ -262,6 +272,8 @@ pub struct Mistakes {
 #[derive(Clone, Copy)]
 pub struct Rest {
     pub transactions: u64,
+    /// All transactions, and those of them that are not drawn, by their kinds, if the timeline is about a query.
+    pub kinds: Option<(TxnCounts, TxnCounts)>,
     pub events: u64,
     /// The number of those events that are reads that are off.
     pub off_reads: u64,
@@ -288,4 +300,27 @@ pub struct Scene<'a> {
     pub nearest: Option<Nearest<'a>>,
     /// The farthest read of that query, if it is off.
     pub farthest: Option<Farthest<'a>>,
+    /// Why the update that explains the farthest read is before the nearest placement or not, or nothing.
+    pub reason: String,
+    /// All reads of that query that are off, the farthest first.
+    pub off_reads: Vec<ListedRead<'a>>,
+    /// Its other reads, in the order of their steps.
+    pub exact_reads: Vec<ListedRead<'a>>,
+    /// The sums of the charges to the query by update, as words, or nothing.
+    pub charged_by: String,
+}
+
+/// A read of a query that has committed, for the table of its reads.
+#[derive(Clone, Copy)]
+pub struct ListedRead<'a> {
+    pub step: u64,
+    pub item: &'a str,
+    pub value: i64,
+    pub writer: Writer<'a>,
+    /// The value in the nearest placement, and its writer.
+    pub state: i64,
+    pub state_writer: Writer<'a>,
+    /// Whether the writer of the value is not before the placement.
+    pub is_late: bool,
+    pub distance: u64,
 }

@@ -3,7 +3,7 @@
 use crate::elements::{close_text, open_centred, push_circle, push_cross, push_square};
 use crate::layout::{Band, Column, TEXT_ROW};
 use crate::reads::{all_rows, class_of_row, has_row, push_row};
-use crate::scene::{Action, Cause, Lane, Scene};
+use crate::scene::{Action, Cause, Excess, Lane, Scene};
 use crate::titles::push_mark_title;
 use esr_text::{push_number, push_value};
 use std::alloc::AllocError;
@@ -80,6 +80,19 @@ fn push_blocker(
     close_text(out)
 }
 
+/// Appends the sum that would have exceeded a limit, and the limit.
+fn push_excess(out: &mut String, excess: Option<Excess>, x: u32, y: u32) -> Result<(), AllocError> {
+    let Some(excess) = excess else {
+        return Ok(());
+    };
+    open_centred(out, "lb bl ha", x, y)?;
+    out.push_str("sum ")?;
+    push_number(out, excess.sum)?;
+    out.push_str(", limit ")?;
+    push_number(out, excess.limit)?;
+    close_text(out)
+}
+
 /// Appends the value below a mark, or what blocked the event.
 fn push_value_label(
     out: &mut String,
@@ -91,7 +104,15 @@ fn push_value_label(
     match column.mark.action {
         Action::Read { .. } => push_rows(out, column, y),
         Action::Write { value } => push_mark_value(out, value, column.x, y),
-        Action::Blocked { cause, times, .. } => push_blocker(out, lane, column, (cause, times), y),
+        Action::Blocked {
+            cause,
+            times,
+            excess,
+            ..
+        } => {
+            push_blocker(out, lane, column, (cause, times), y)?;
+            push_excess(out, excess, column.x, y.saturating_add(TEXT_ROW))
+        }
         Action::Begin | Action::Commit | Action::Abort => Ok(()),
     }
 }

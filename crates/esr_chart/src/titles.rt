@@ -1,7 +1,7 @@
 //! The titles of marks and charges, which are shown when a pointer is over them.
 
 use crate::reads::push_writer;
-use crate::scene::{Action, Arrow, Cause, Lane, Mark, Note, NotedWrite, Writer};
+use crate::scene::{Action, Arrow, Cause, Excess, Lane, Mark, Note, NotedWrite, Writer};
 use esr_outcomes::TxnKind;
 use esr_text::{push_number, push_value};
 use esr_trace::outcome_words;
@@ -26,13 +26,24 @@ fn cause_words(cause: Cause) -> &'static str {
     }
 }
 
+/// Appends the sum that would have exceeded a limit.
+fn push_excess(out: &mut String, excess: Option<Excess>) -> Result<(), AllocError> {
+    let Some(excess) = excess else {
+        return Ok(());
+    };
+    out.push_str(": the sum would have been ")?;
+    push_number(out, excess.sum)?;
+    out.push_str(" of ")?;
+    push_number(out, excess.limit)
+}
+
 /// Appends a blocked event.
 fn push_blocked(
     out: &mut String,
     name: &str,
     mark: &Mark<'_>,
     value: Option<i64>,
-    cause: Cause,
+    (cause, excess): (Cause, Option<Excess>),
     times: u64,
 ) -> Result<(), AllocError> {
     let item = mark.item;
@@ -50,7 +61,7 @@ fn push_blocked(
     if times > 1 {
         write!(out, ", {times} times")?;
     }
-    Ok(())
+    push_excess(out, excess)
 }
 
 /// Returns the name of the kind of a transaction.
@@ -67,7 +78,7 @@ fn push_writer_after(out: &mut String, writer: Option<Writer<'_>>) -> Result<(),
     if writer.is_some() {
         out.push(' ')?;
     }
-    push_writer(out, writer)
+    push_writer(out, writer, true)
 }
 
 /// Appends the value of the item in the nearest placement with its writer, if a read is off.
@@ -104,19 +115,11 @@ fn push_write(out: &mut String, write: &NotedWrite<'_>) -> Result<(), AllocError
 fn push_note(out: &mut String, note: Option<Note<'_>>) -> Result<(), AllocError> {
     match note {
         Some(Note::Wrote(write)) => push_write(out, &write),
-        Some(Note::Equals(update)) => {
+        Some(Note::Equals(writer)) => {
             out.push_str(", as in the nearest state")?;
-            push_writer_after(out, Some(writer_of(update)))
+            push_writer_after(out, Some(writer))
         }
         None => Ok(()),
-    }
-}
-
-/// Returns an update as a writer, or the opening value if there is none.
-fn writer_of(update: Option<&str>) -> Writer<'_> {
-    match update {
-        Some(update) => Writer::Update(update),
-        None => Writer::Opening,
     }
 }
 
@@ -145,8 +148,8 @@ fn push_action(out: &mut String, lane: &Lane<'_>, mark: &Mark<'_>) -> Result<(),
             value,
             cause,
             times,
-            ..
-        } => push_blocked(out, name, mark, value, cause, times),
+            excess,
+        } => push_blocked(out, name, mark, value, (cause, excess), times),
         Action::Commit => write!(out, "{name} committed"),
         Action::Abort => write!(out, "{name} aborted"),
     }

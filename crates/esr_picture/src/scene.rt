@@ -9,6 +9,7 @@ use crate::observed_reads::{read_counts_by_value, read_flags_by_version, transie
 use crate::selection::{Choice, FEW_RELEVANT, choose};
 use crate::titles::{arrow_title, update_title};
 use crate::versions::{Positions, unwritten, versions_of};
+use esr_audit::Finding;
 use esr_cert::{Chain, Problem};
 use esr_history::TxnId;
 use esr_items::Metric;
@@ -17,7 +18,10 @@ use esr_svg::{
     Arrow, Deciding, Lane, LaneReads, LaneSegment, MAX_UPDATES, Scene, Update, updates_to_keep,
 };
 use esr_text::first;
-use esr_trace::{Audited, NearestPlacement, QueryTrace, relevant_updates, sentences_of};
+use esr_trace::{
+    Alternative, Audited, NearestPlacement, QueryTrace, TxnClass, TxnCounts, push_undrawn,
+    relevant_updates, sentences_of,
+};
 use std::alloc::{AllocError, Global};
 
 /// The number of times that a scene that is too wide is rebuilt with fewer updates, but at least [`FEW_RELEVANT`].
@@ -30,10 +34,13 @@ const LAST_TRIES: u32 = 15;
 /// The maximum number of values read within each stretch of several.
 const MAX_READS: usize = 2;
 
-/// The number of causes of reads that come before the updates that were charged most, and the number of these.
-const FIRST_CAUSES: usize = 2;
+/// The number of causes of the farthest reads that come before the updates that were charged most, and the number of these.
+const FIRST_CAUSES: usize = 3;
 
 const MAX_CHARGERS: usize = 3;
+
+/// The maximum number of causes of reads for which a sentence says why they are before or after the line.
+const MAX_REASONS: usize = 8;
 
 /// The maximum number of items without a lane that are named.
 const MAX_NAMES: usize = 3;
@@ -108,8 +115,9 @@ fn relevant_positions(
     let causes = placement.causes(alloc, audited.history, trace)?;
     let mut wanted = relevant_updates(alloc, trace, &[], &[], MAX_CHARGERS)?;
     wanted.extend_from_slice(&causes)?;
-    let first_causes = first(&causes, FIRST_CAUSES);
-    let updates = relevant_updates(alloc, trace, first_causes, &wanted, MAX_UPDATES)?;
+    let mut first_causes = relevant_updates(alloc, trace, &causes, &[], FIRST_CAUSES)?;
+    first_causes.retain(|update| causes.contains(update));
+    let updates = relevant_updates(alloc, trace, &first_causes, &wanted, MAX_UPDATES)?;
     let mut relevant = Vec::new(alloc);
     for update in &updates {
         let is_wanted = relevant.len() < FEW_RELEVANT || wanted.contains(update);
@@ -435,6 +443,7 @@ impl<'a, 'b> SceneParts<'a, 'b> {
             arrows: Vec::new(alloc),
             unwritten_items: self.choice.unwritten,
             omitted_updates: committed.saturating_sub(self.drawn.len() as u64),
+            omitted_transactions: String::new(alloc),
             omitted_items: without_lane.saturating_sub(self.choice.unwritten),
             omitted_items_off,
             omitted_difference,
@@ -446,7 +455,27 @@ impl<'a, 'b> SceneParts<'a, 'b> {
             query_slot: self.line,
             updates: Vec::new(alloc),
             lanes: Vec::new(alloc),
+            reasons: Vec::new(alloc),
         }
+    }
+
+    /// Returns which transactions are not drawn, as words, or nothing if these are queries only.
+    fn omitted_transactions(&self, alloc: Global) -> Result<String, AllocError> {
+        let audited = self.source.audited;
+        let query = audited.finding.query;
+        let all = TxnCounts::of(audited.history, query);
+        let mut drawn = TxnCounts::none();
+        drawn.note(TxnClass::Query);
+        for _ in &self.drawn {
+            drawn.note(TxnClass::Committed);
+        }
+        let rest = all.without(drawn);
+        let mut words = String::new(alloc);
+        if rest.have_updates() {
+            let name = name_of_transaction(audited.transactions, query);
+            push_undrawn(&mut words, name, all, rest)?;
+        }
+        Ok(words)
     }
 
     /// Adds what is drawn to a scene.
@@ -456,6 +485,7 @@ impl<'a, 'b> SceneParts<'a, 'b> {
         scene.updates = self.updates(alloc)?;
         scene.lanes = self.lanes(alloc)?;
         scene.deciding = self.deciding(alloc)?;
+        scene.omitted_transactions = self.omitted_transactions(alloc)?;
         Ok(())
     }
 
@@ -496,5 +526,47 @@ pub fn scene_of<'a>(
         extent = extent.reduced(fitting, tries);
         scene = scene_with(alloc, &source, extent)?;
     }
+    scene.reasons = reasons_of(alloc, audited, trace)?;
     Ok(scene)
+}
+
+/// Adds why an update is before or after the line.
+fn push_reason(
+    alloc: Global,
+    reasons: &mut Vec<String>,
+    audited: &Audited<'_>,
+    update: TxnId,
+) -> Result<(), AllocError> {
+    let Finding {
+        problem,
+        certificate,
+        query,
+        ..
+    } = audited.finding;
+    if let Some(alternative) = Alternative::of(alloc, problem, &certificate.set, update)? {
+        let mut words = String::new(alloc);
+        let name = name_of_transaction(audited.transactions, *query);
+        alternative.push(&mut words, audited.items, audited.transactions, name)?;
+        if !words.is_empty() {
+            reasons.push(words)?;
+        }
+    }
+    Ok(())
+}
+
+/// Returns why the updates that explain the farthest reads are before or after the line.
+fn reasons_of(
+    alloc: Global,
+    audited: &Audited<'_>,
+    trace: &QueryTrace,
+) -> Result<Vec<String>, AllocError> {
+    let placement = NearestPlacement::after(alloc, audited.history, &audited.finding.before)?;
+    let causes = placement.causes(alloc, audited.history, trace)?;
+    let mut reasons = Vec::new(alloc);
+    for update in &relevant_updates(alloc, trace, &causes, &[], MAX_REASONS)? {
+        if causes.contains(update) {
+            push_reason(alloc, &mut reasons, audited, *update)?;
+        }
+    }
+    Ok(reasons)
 }

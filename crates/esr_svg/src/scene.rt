@@ -146,8 +146,11 @@ pub struct Scene<'a> {
     pub query_slot: u8,
     /// The number of items that were never written, of which the query read the opening value, and that have no lane.
     pub unwritten_items: usize,
-    /// The number of updates before the query's commit that are not drawn, and that of the other items without a lane.
+    /// The number of updates before the query's commit that are not drawn.
     pub omitted_updates: u64,
+    /// The transactions that are not drawn, as words, or nothing.
+    pub omitted_transactions: String,
+    /// The number of the other items without a lane.
     pub omitted_items: usize,
     /// The number of omitted items whose reads differ from their versions at the line, and the sum of these differences.
     pub omitted_items_off: usize,
@@ -156,6 +159,8 @@ pub struct Scene<'a> {
     pub ties: u64,
     /// The items without a lane that keep the line from a position at which the lanes would be less far off.
     pub deciding: Deciding<'a>,
+    /// Why the updates that explain the farthest reads are before or after the line.
+    pub reasons: Vec<String>,
 }
 
 impl Scene<'_> {

@@ -89,14 +89,12 @@ fn push_other_items(out: &mut String, items: u64, off: u64, sum: u64) -> Result<
     push_number(out, sum)
 }
 
-/// Appends how many updates and items are not drawn.
+/// Appends which transactions and how many items are not drawn.
 fn push_omissions(out: &mut String, scene: &Scene<'_>) -> Result<(), AllocError> {
     let items = scene.omitted_items as u64;
     out.push_str("Not drawn: ")?;
-    if scene.omitted_updates > 0 {
-        push_count(out, scene.omitted_updates, " more update", " more updates")?;
-    }
-    if scene.omitted_updates > 0 && items > 0 {
+    out.push_str(&scene.omitted_transactions)?;
+    if !scene.omitted_transactions.is_empty() && items > 0 {
         out.push_str("; ")?;
     }
     if items > 0 {
@@ -130,13 +128,13 @@ fn push_unwritten(
     Ok(())
 }
 
-/// Adds the sentences on the updates and the other items that are not drawn, if there are any.
+/// Adds the sentence on the transactions and the other items that are not drawn, if there are any.
 fn push_rest(
     alloc: Global,
     sentences: &mut Vec<String>,
     scene: &Scene<'_>,
 ) -> Result<(), AllocError> {
-    if scene.omitted_updates == 0 && scene.omitted_items == 0 {
+    if scene.omitted_transactions.is_empty() && scene.omitted_items == 0 {
         return Ok(());
     }
     let mut words = String::new(alloc);
@@ -266,7 +264,13 @@ fn omissions_of(alloc: Global, scene: &Scene<'_>, width: u32) -> Result<Vec<Stri
     push_deciding(alloc, &mut sentences, &scene.deciding)?;
     push_later(alloc, &mut sentences, scene)?;
     push_ties(alloc, &mut sentences, scene)?;
-    lines_of(alloc, &sentences, MAX_SENTENCES, width)
+    let mut lines = lines_of(alloc, &sentences, MAX_SENTENCES, width)?;
+    // Sentences with many names have shorter lines, since a name may have wide letters only.
+    let width = width.saturating_mul(4) / 5;
+    for line in lines_of(alloc, &scene.reasons, MAX_SENTENCES, width)? {
+        lines.push(line)?;
+    }
+    Ok(lines)
 }
 
 /// Returns the width of a letter of a line with an error: two of a letter that is wide, or replaced by a wide one.

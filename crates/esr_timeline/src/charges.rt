@@ -4,9 +4,12 @@ use crate::causes::{Causes, ranking};
 use crate::lanes::lane_at;
 use crate::marks::line_at;
 use crate::source::Source;
-use esr_chart::{Arrow, Lane, Relation};
+use esr_chart::{Arrow, Excess, Lane, Relation};
 use esr_history::TxnId;
 use esr_items::Metric;
+use esr_report::name_of_transaction;
+use esr_text::{first, push_number};
+use esr_trace::{QueryTrace, Sum};
 use esr_trace_events::{Change, Charge, Charges};
 use std::alloc::{AllocError, Global};
 
@@ -89,10 +92,43 @@ fn count_entries(source: Source<'_>, charged_queries: ChargedQueries) -> usize {
     end.map_or(count, |end| count.min((end as usize).saturating_add(1)))
 }
 
+/// An entry that was refused since a sum of charges would have exceeded a limit.
+#[derive(Clone, Copy)]
+pub struct Exceeded {
+    pub place: usize,
+    pub excess: Excess,
+}
+
+/// The charges to queries, and the entries that were refused because of a limit, both in the order of their entries.
+#[derive(Drop)]
+pub struct Replayed<'a> {
+    pub arrows: Vec<Arrow<'a>>,
+    pub exceeded: Vec<Exceeded>,
+}
+
+/// Adds the next entry, if it was refused because of a limit.
+fn push_exceeded(
+    alloc: Global,
+    exceeded: &mut Vec<Exceeded>,
+    charges: &Charges<'_>,
+    place: usize,
+) -> Result<(), AllocError> {
+    if let Some(found) = charges.excess(alloc)? {
+        exceeded.push(Exceeded {
+            place,
+            excess: Excess {
+                sum: found.sum,
+                limit: found.limit,
+            },
+        })?;
+    }
+    Ok(())
+}
+
 /// Adds the charges of the entries of a replay up to the end of the queries.
 fn push_all_charges<'a>(
     alloc: Global,
-    arrows: &mut Vec<Arrow<'a>>,
+    all: &mut Replayed<'a>,
     charges: &mut Charges<'_>,
     source: Source<'a>,
     causes: &Causes,
@@ -100,9 +136,10 @@ fn push_all_charges<'a>(
     charged_queries: ChargedQueries,
 ) -> Result<(), AllocError> {
     for place in 0..count_entries(source, charged_queries) {
+        push_exceeded(alloc, &mut all.exceeded, charges, place)?;
         let charges = charges.step(alloc)?;
         push_charges(
-            arrows,
+            &mut all.arrows,
             source,
             causes,
             lanes,
@@ -114,26 +151,29 @@ fn push_all_charges<'a>(
     Ok(())
 }
 
-/// Returns the charges to queries that have lanes, in the order of their entries.
+/// Returns the charges to queries that have lanes, and the entries that were refused because of a limit.
 pub fn charges_to<'a>(
     alloc: Global,
     source: Source<'a>,
     causes: &Causes,
     lanes: &[Lane<'a>],
     charged_queries: ChargedQueries,
-) -> Result<Vec<Arrow<'a>>, AllocError> {
-    let mut arrows = Vec::new(alloc);
+) -> Result<Replayed<'a>, AllocError> {
+    let mut all = Replayed {
+        arrows: Vec::new(alloc),
+        exceeded: Vec::new(alloc),
+    };
     let mut charges = Charges::new(alloc, source.history)?;
     push_all_charges(
         alloc,
-        &mut arrows,
+        &mut all,
         &mut charges,
         source,
         causes,
         lanes,
         charged_queries,
     )?;
-    Ok(arrows)
+    Ok(all)
 }
 
 /// Returns the same charges between other lanes: those to queries that have one of them.
@@ -283,4 +323,65 @@ pub fn greatest<'a>(
         }
     }
     Ok(greatest)
+}
+
+/// The sums of the charges to a query by update, the greatest first.
+#[derive(Drop)]
+pub struct ChargeSums {
+    sums: Vec<Sum>,
+    total: u64,
+}
+
+impl ChargeSums {
+    /// Returns the sums of a query without charges.
+    pub fn none(alloc: Global) -> ChargeSums {
+        ChargeSums {
+            sums: Vec::new(alloc),
+            total: 0,
+        }
+    }
+
+    /// Returns the sums of the query of a trace.
+    pub fn of(alloc: Global, trace: &QueryTrace) -> Result<ChargeSums, AllocError> {
+        Ok(ChargeSums {
+            sums: trace.sums_by_update(alloc)?,
+            total: trace.charge_sum(),
+        })
+    }
+
+    /// Returns the updates with their sums as words, at most `upper_bound` of them, or nothing if there are none.
+    pub fn words(
+        &self,
+        alloc: Global,
+        source: Source<'_>,
+        upper_bound: usize,
+    ) -> Result<String, AllocError> {
+        let mut words = String::new(alloc);
+        let mut joint = "All charges by update: ";
+        let mut rest = self.total;
+        for sum in first(&self.sums, upper_bound) {
+            push_sum(&mut words, joint, source, *sum)?;
+            rest = rest.saturating_sub(sum.amount);
+            joint = ", ";
+        }
+        let others = self.sums.len().saturating_sub(upper_bound);
+        if others > 0 {
+            words.push_str(" and ")?;
+            push_number(&mut words, others as u64)?;
+            words.push_str(" more of ")?;
+            push_number(&mut words, rest)?;
+            words.push_str(" together")?;
+        }
+        if !words.is_empty() {
+            words.push('.')?;
+        }
+        Ok(words)
+    }
+}
+
+/// Appends an update with the sum of its charges.
+fn push_sum(out: &mut String, joint: &str, source: Source<'_>, sum: Sum) -> Result<(), AllocError> {
+    let update = name_of_transaction(source.transactions, TxnId(sum.number));
+    write!(out, "{joint}{update} ")?;
+    push_number(out, sum.amount)
 }

@@ -6,8 +6,8 @@
 use crate::fit::{Picture, Pictures};
 use crate::sentences::{Line, LineClass, push_all_lines};
 use esr_chart::{
-    MARGIN, Size, Sizes, legend_height, open_narrow, prefix_of, push_attributes, push_background,
-    push_bands, push_head, push_legend, push_text,
+    MARGIN, Size, Sizes, Table, legend_height, open_narrow, prefix_of, push_attributes,
+    push_background, push_bands, push_head, push_legend, push_text, table_width,
 };
 use std::alloc::{AllocError, Global};
 
@@ -15,6 +15,9 @@ use std::alloc::{AllocError, Global};
 const NARROWEST: u32 = 460;
 
 const PHONE: u32 = 390;
+
+/// The maximum width of a layout that is as wide as its table.
+const WIDEST: u32 = 1100;
 
 /// From line to line of the sentences.
 const SENTENCE: u32 = 18;
@@ -70,12 +73,20 @@ fn push_layout(
 ) -> Result<Size, AllocError> {
     let count = lines.len().min(100) as u32;
     let top = count.saturating_mul(SENTENCE).saturating_add(30);
-    let legend = picture.layout.stack(top).saturating_add(14);
+    let bottom = picture.layout.stack(top).saturating_add(14);
+    let table = Table::of(alloc, &picture.scene, width)?;
+    let legend = bottom.saturating_add(match &table {
+        Some(table) => table.height(),
+        None => 0,
+    });
     let height = legend.saturating_add(legend_height(&picture.scene, &picture.layout, width));
     let size = Size { width, height };
     push_background(out, size)?;
     push_lines(out, lines)?;
     push_bands(out, &picture.scene, &picture.layout)?;
+    if let Some(table) = &table {
+        table.push(out, &picture.scene, bottom)?;
+    }
     push_keys(alloc, out, picture, width, legend)?;
     Ok(size)
 }
@@ -88,7 +99,16 @@ fn draw(
     errors: u64,
     least: u32,
 ) -> Result<Size, AllocError> {
-    let width = picture.layout.right.saturating_add(MARGIN).max(least);
+    let table = match table_width(&picture.scene) {
+        width if least == NARROWEST && width <= WIDEST => width,
+        _ => 0,
+    };
+    let width = picture
+        .layout
+        .right
+        .saturating_add(MARGIN)
+        .max(table)
+        .max(least);
     let mut lines = Vec::new(alloc);
     push_all_lines(alloc, &mut lines, picture, errors, width)?;
     push_layout(alloc, out, picture, &lines, width)

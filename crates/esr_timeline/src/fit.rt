@@ -5,34 +5,35 @@
 
 use crate::causes::Causes;
 use crate::charges::{
-    ChargedQueries, between, charges_to, drawable, greatest, sum_of, with_drawn, with_exports,
+    ChargeSums, ChargedQueries, Exceeded, Replayed, between, charges_to, drawable, greatest,
+    sum_of, with_drawn, with_exports,
 };
-use crate::farthest::farthest_read;
+use crate::farthest::{farthest_read, reason_of_farthest};
 use crate::lanes::{
-    MAX_CHARGERS, MAX_LANES, chargers, concerned, farthest, first_begun, lane_at, lanes_of,
-    nearest_to,
+    MAX_CHARGERS, MAX_LANES, chargers, concerned, counts_of, farthest, first_begun, lane_at,
+    lanes_of, nearest_to, note_sides,
 };
 use crate::marks::{
-    count_off_reads, keys_of, mark_keys, mark_query_reads, marks_of, marks_on, mistakes_on,
-    omit_notes,
+    count_off_reads, exact_reads_on, keys_of, mark_keys, mark_query_reads, marks_of, marks_on,
+    mistakes_on, note_excesses, off_reads_on,
 };
 use crate::notes::complete_notes;
 use crate::source::Source;
 use esr_chart::{
-    Arrow, Drawn, Farthest, Format, Heads, Lane, Layout, Mark, Nearest, Order, Rest, Scene,
-    Spacing, layout_of,
+    Arrow, Drawn, Farthest, Format, Heads, Lane, Layout, ListedRead, Mark, Nearest, Order, Rest,
+    Scene, Spacing, layout_of,
 };
 use esr_history::TxnId;
 use esr_report::name_of_transaction;
 use esr_text::first;
-use esr_trace::{QueryTrace, trace_of};
+use esr_trace::{QueryTrace, TxnCounts, trace_of};
 use std::alloc::{AllocError, Global};
 
 /// The wide layout of a timeline: no band is wider, unless one event is.
 const WIDE_FORMAT: Format = Format {
     width: 1064,
     bands: 4,
-    height: 1900,
+    height: 1700,
     heads: Heads::InFront,
 };
 
@@ -40,7 +41,7 @@ const WIDE_FORMAT: Format = Format {
 const NARROW_FORMAT: Format = Format {
     width: 360,
     bands: 12,
-    height: 2500,
+    height: 1600,
     heads: Heads::Above,
 };
 
@@ -51,6 +52,14 @@ const WHOLE_NARROW_FORMAT: Format = Format {
     height: u32::MAX,
     heads: Heads::Above,
 };
+
+/// Returns the maximum number of updates that are listed with the sums of their charges.
+fn max_sums(heads: Heads) -> usize {
+    match heads {
+        Heads::InFront => 100,
+        Heads::Above => 12,
+    }
+}
 
 /// No layout has space for more events.
 const MAX_COLUMNS: usize = 300;
@@ -300,6 +309,13 @@ struct Material<'a> {
     nearest: Option<Nearest<'a>>,
     /// The farthest read of that query, if that is off.
     farthest: Option<Farthest<'a>>,
+    /// Why the update that explains that read is before the nearest placement or not, or nothing.
+    reason: String,
+    /// All reads of that query that are off, and its other reads.
+    off_reads: Vec<ListedRead<'a>>,
+    exact_reads: Vec<ListedRead<'a>>,
+    /// The sums of the charges to that query by update.
+    charge_sums: ChargeSums,
 }
 
 /// What is drawn at a stage.
@@ -419,12 +435,23 @@ impl<'a> Material<'a> {
         }
     }
 
+    /// Returns the numbers of all transactions and of those that are not drawn by their kinds, if the timeline is about a query.
+    fn kinds(&self, choice: &Choice<'a>) -> Option<(TxnCounts, TxnCounts)> {
+        let query = self.query?;
+        let all = TxnCounts::of(self.source.history, query);
+        Some((
+            all,
+            all.without(counts_of(self.source, query, &choice.lanes)),
+        ))
+    }
+
     /// Returns what is not drawn.
     fn rest(&self, choice: &Choice<'a>) -> Rest {
         let begun = self.source.history.begun_count();
         let charges = self.charges.len().saturating_sub(choice.arrows.len());
         Rest {
             transactions: begun.saturating_sub(choice.lanes.len()) as u64,
+            kinds: self.kinds(choice),
             events: choice.hidden as u64,
             off_reads: choice.hidden_off as u64,
             charges: charges as u64,
@@ -458,7 +485,6 @@ impl<'a> Material<'a> {
     ) -> Result<(), AllocError> {
         let all = self.marks(alloc, detail, &choice.lanes, &choice.arrows)?;
         choice.marks = drawn_marks(alloc, &all, detail)?;
-        omit_notes(&mut choice.marks);
         choice.hidden = all.len().saturating_sub(choice.marks.len());
         choice.hidden_off = count_off_reads(&all).saturating_sub(count_off_reads(&choice.marks));
         choice.arrows = shown(alloc, &choice.arrows, &choice.marks)?;
@@ -510,11 +536,17 @@ impl<'a> Material<'a> {
     }
 
     /// Returns the scene of a choice.
-    fn scene(&self, choice: Choice<'a>, all_charges: Vec<Arrow<'a>>) -> Scene<'a> {
+    fn scene(
+        &self,
+        alloc: Global,
+        choice: Choice<'a>,
+        all_charges: Vec<Arrow<'a>>,
+        heads: Heads,
+    ) -> Result<Scene<'a>, AllocError> {
         let rest = self.rest(&choice);
         let mistakes = mistakes_on(self.source, &choice.lanes);
         let Choice { lanes, arrows, .. } = choice;
-        Scene {
+        Ok(Scene {
             query: self.query_name(),
             lanes,
             arrows,
@@ -524,7 +556,11 @@ impl<'a> Material<'a> {
             mistakes,
             nearest: self.nearest,
             farthest: self.farthest,
-        }
+            reason: String::from_str(alloc, self.reason.as_str())?,
+            off_reads: self.off_reads.to_vec(alloc)?,
+            exact_reads: self.exact_reads.to_vec(alloc)?,
+            charged_by: self.charge_sums.words(alloc, self.source, max_sums(heads))?,
+        })
     }
 
     /// Returns the timeline of a choice.
@@ -533,9 +569,10 @@ impl<'a> Material<'a> {
         alloc: Global,
         choice: Choice<'a>,
         layout: Layout<'a>,
+        heads: Heads,
     ) -> Result<Picture<'a>, AllocError> {
         let all_charges = between(alloc, &self.charges, &self.lanes, &choice.lanes)?;
-        let scene = self.scene(choice, all_charges);
+        let scene = self.scene(alloc, choice, all_charges, heads)?;
         Ok(Picture { scene, layout })
     }
 
@@ -548,7 +585,7 @@ impl<'a> Material<'a> {
     ) -> Result<Picture<'a>, AllocError> {
         let choice = self.choice(alloc, stage.detail)?;
         let layout = layout_of(alloc, choice.drawn(), stage.spacing, format)?;
-        self.picture_of(alloc, choice, layout)
+        self.picture_of(alloc, choice, layout, format.heads)
     }
 
     /// Returns the timeline at the first stage at which it fits.
@@ -643,9 +680,11 @@ fn material_on<'a>(
     query: Option<TxnId>,
     lanes: Vec<Lane<'a>>,
     charges: Vec<Arrow<'a>>,
+    exceeded: &[Exceeded],
 ) -> Result<Material<'a>, AllocError> {
     let lanes = with_exports(alloc, &lanes, &charges)?;
-    let marks = marks_of(alloc, source, &lanes)?;
+    let mut marks = marks_of(alloc, source, &lanes)?;
+    note_excesses(&mut marks, exceeded);
     Ok(Material {
         source,
         query,
@@ -656,7 +695,30 @@ fn material_on<'a>(
         chargers: Vec::new(alloc),
         nearest: None,
         farthest: None,
+        reason: String::new(alloc),
+        off_reads: Vec::new(alloc),
+        exact_reads: Vec::new(alloc),
+        charge_sums: ChargeSums::none(alloc),
     })
+}
+
+/// Adds the nearest placement of a query, and what explains its reads that are off.
+fn add_nearest<'a>(
+    alloc: Global,
+    material: &mut Material<'a>,
+    query: TxnId,
+    trace: &QueryTrace,
+    farthest: Option<Farthest<'a>>,
+) -> Result<(), AllocError> {
+    let source = material.source;
+    material.nearest = nearest_to(alloc, source, query, trace)?;
+    material.farthest = farthest;
+    material.reason = reason_of_farthest(alloc, source, query, trace)?;
+    if let Some(lane) = lane_at(&material.lanes, query) {
+        material.off_reads = off_reads_on(alloc, &material.marks, lane)?;
+        material.exact_reads = exact_reads_on(alloc, &material.marks, lane)?;
+    }
+    Ok(())
 }
 
 /// Returns the lanes of a query with these charges and of the transactions that concern it.
@@ -682,19 +744,20 @@ fn material_about<'a>(
     causes: &Causes,
 ) -> Result<Material<'a>, AllocError> {
     let all = charges_to(alloc, source, causes, own, ChargedQueries::One(query))?;
+    let Replayed { arrows, exceeded } = all;
     let of_reads = causes.of_reads(alloc, source, trace)?;
-    let lanes = lanes_about(alloc, source, query, trace, &of_reads, &all)?;
-    let charges = between(alloc, &all, own, &lanes)?;
-    let farthest = farthest_read(alloc, source, query, causes, trace, &all)?;
-    let nearest = nearest_to(alloc, source, query, trace)?;
-    let mut material = material_on(alloc, source, Some(query), lanes, charges)?;
+    let mut lanes = lanes_about(alloc, source, query, trace, &of_reads, &arrows)?;
+    note_sides(alloc, source, query, &mut lanes)?;
+    let charges = between(alloc, &arrows, own, &lanes)?;
+    let farthest = farthest_read(alloc, source, query, causes, trace, &arrows)?;
+    let mut material = material_on(alloc, source, Some(query), lanes, charges, &exceeded)?;
     if let Some(lane) = lane_at(&material.lanes, query) {
         complete_notes(source, causes, &mut material.marks, lane);
     }
     material.causes = of_reads;
     material.chargers = chargers(alloc, trace, MAX_CHARGERS)?;
-    material.farthest = farthest;
-    material.nearest = nearest;
+    material.charge_sums = ChargeSums::of(alloc, trace)?;
+    add_nearest(alloc, &mut material, query, trace, farthest)?;
     Ok(material)
 }
 
@@ -711,18 +774,25 @@ pub fn timeline_of_query<'a>(
     material.pictures(alloc, one(), NARROW_FORMAT)
 }
 
-/// Returns the material of the transactions that began first.
-fn material_of_first<'a>(alloc: Global, source: Source<'a>) -> Result<Material<'a>, AllocError> {
+/// Returns the material of the transactions that began first, with the sides of the nearest placement of this query.
+fn material_of_first<'a>(
+    alloc: Global,
+    source: Source<'a>,
+    query: Option<TxnId>,
+) -> Result<Material<'a>, AllocError> {
     let chosen = first_begun(alloc, source, MAX_LANES)?;
-    let lanes = lanes_of(alloc, source, &chosen)?;
-    let charges = charges_to(
+    let mut lanes = lanes_of(alloc, source, &chosen)?;
+    if let Some(query) = query {
+        note_sides(alloc, source, query, &mut lanes)?;
+    }
+    let Replayed { arrows, exceeded } = charges_to(
         alloc,
         source,
         &Causes::none(alloc),
         &lanes,
         ChargedQueries::All,
     )?;
-    material_on(alloc, source, None, lanes, charges)
+    material_on(alloc, source, None, lanes, arrows, &exceeded)
 }
 
 /// Returns the farthest read of a query, if it is off.
@@ -734,22 +804,20 @@ fn farthest_read_of<'a>(
 ) -> Result<Option<Farthest<'a>>, AllocError> {
     let own = lanes_of(alloc, source, &[query])?;
     let causes = Causes::of(alloc, source, query, trace)?;
-    let charges = charges_to(alloc, source, &causes, &own, ChargedQueries::One(query))?;
-    farthest_read(alloc, source, query, &causes, trace, &charges)
+    let all = charges_to(alloc, source, &causes, &own, ChargedQueries::One(query))?;
+    farthest_read(alloc, source, query, &causes, trace, &all.arrows)
 }
 
 /// Returns the material of a whole script with the nearest placement and the farthest read of the query with the greatest
 /// distance.
 fn material_of_whole<'a>(alloc: Global, source: Source<'a>) -> Result<Material<'a>, AllocError> {
     let Some(query) = farthest(alloc, source.auditor)? else {
-        return material_of_first(alloc, source);
+        return material_of_first(alloc, source, None);
     };
     let trace = trace_of(alloc, source.history, query)?;
-    let nearest = nearest_to(alloc, source, query, &trace)?;
     let farthest = farthest_read_of(alloc, source, query, &trace)?;
-    let mut material = material_of_first(alloc, source)?;
-    material.nearest = nearest;
-    material.farthest = farthest;
+    let mut material = material_of_first(alloc, source, Some(query))?;
+    add_nearest(alloc, &mut material, query, &trace, farthest)?;
     Ok(material)
 }
 
@@ -783,7 +851,7 @@ fn timeline_of_farthest<'a>(alloc: Global, source: Source<'a>) -> Result<Picture
             let trace = trace_of(alloc, source.history, query)?;
             timeline_of_query(alloc, source, query, &trace)
         }
-        None => material_of_first(alloc, source)?.pictures(alloc, beginning(), NARROW_FORMAT),
+        None => material_of_first(alloc, source, None)?.pictures(alloc, beginning(), NARROW_FORMAT),
     }
 }
 

@@ -7,7 +7,10 @@ use esr_history::{Entry, Refusal, Reply, TxnId};
 use esr_outcomes::{Auditor, kind_of, outcome_of};
 use esr_report::name_of_transaction;
 use esr_text::first;
-use esr_trace::{NearestPlacement, QueryTrace, off_reads, opening_distance, relevant_updates};
+use esr_trace::{
+    NearestPlacement, QueryTrace, TxnCounts, class_of, off_reads, opening_distance,
+    relevant_updates,
+};
 use std::alloc::{AllocError, Global};
 
 /// The maximum number of lanes.
@@ -261,6 +264,7 @@ fn lane_of<'a>(alloc: Global, source: Source<'a>, txn: TxnId) -> Result<Lane<'a>
         drawn: 0,
         outcome: outcome_of(source.history, txn),
         distance: source.auditor.distance(alloc, txn)?,
+        in_state: None,
     })
 }
 
@@ -275,6 +279,38 @@ pub fn lanes_of<'a>(
         lanes.push(lane_of(alloc, source, *txn)?)?;
     }
     Ok(lanes)
+}
+
+/// Notes which updates are before the nearest placement of a query, if it has committed.
+pub fn note_sides(
+    alloc: Global,
+    source: Source<'_>,
+    query: TxnId,
+    lanes: &mut [Lane<'_>],
+) -> Result<(), AllocError> {
+    let Some(audit) = source.auditor.summary(alloc, query)? else {
+        return Ok(());
+    };
+    let placement = NearestPlacement::after(alloc, source.history, &audit.before)?;
+    for index in 0..lanes.len() {
+        if let Some(lane) = lanes.get_mut(index)
+            && !lane.is_query()
+        {
+            lane.in_state = Some(placement.has_before(lane.txn));
+        }
+    }
+    Ok(())
+}
+
+/// Returns the numbers of the transactions of some lanes by their kinds, as seen from a query.
+pub fn counts_of(source: Source<'_>, query: TxnId, lanes: &[Lane<'_>]) -> TxnCounts {
+    let facts = source.history.facts(query);
+    let end = facts.and_then(|facts| facts.end);
+    let mut counts = TxnCounts::none();
+    for lane in lanes {
+        counts.note(class_of(source.history, lane.txn, end));
+    }
+    counts
 }
 
 /// Returns the lane of a transaction among these, if it has one.

@@ -1,9 +1,10 @@
 //! The marks on lanes: one pass over the log. An event that was blocked and tried again at once has one mark.
 
+use crate::charges::Exceeded;
 use crate::lanes::{blocker_of, lane_at, placements_of};
 use crate::notes::{note_of, writer_in, writer_read};
 use crate::source::Source;
-use esr_chart::{Action, Arrow, Cause, Lane, Mark, Mistakes, Note};
+use esr_chart::{Action, Arrow, Cause, Lane, ListedRead, Mark, Mistakes, Note, Writer};
 use esr_history::{Entry, Event, Refusal, Reply, TxnId};
 use esr_items::{ItemId, Metric};
 use esr_report::name_of_transaction;
@@ -40,6 +41,7 @@ fn action_of(entry: Entry) -> Option<Action> {
             value: value_written(entry.event),
             cause,
             times: 1,
+            excess: None,
         });
     }
     match (entry.event, entry.reply) {
@@ -115,7 +117,6 @@ fn mark_with<'a>(
         writer: None,
         state_writer: None,
         note: None,
-        has_note: false,
     }
 }
 
@@ -136,10 +137,12 @@ fn compare<'a>(
         return;
     }
     mark.action = compared(value, placement, item);
-    mark.state_writer = Some(writer_in(source, placement, item));
     let is_off = placement.value(item.0) != Some(value);
     mark.note = note_of(source, placement, mark.place, item, is_off);
-    mark.has_note = mark.note.is_some();
+    // Only a read that is off or has a note shows the writer there, which is searched along the entries of the item.
+    if is_off || mark.note.is_some() {
+        mark.state_writer = Some(writer_in(source, placement, item));
+    }
 }
 
 /// Returns the mark of an entry, if its transaction has a lane.
@@ -419,6 +422,89 @@ pub fn count_off_reads(marks: &[Mark<'_>]) -> usize {
     count
 }
 
+/// Returns whether the writer of the value of a read is not before the nearest placement: the note is of its write then.
+fn is_late(mark: &Mark<'_>) -> bool {
+    match (mark.writer, mark.note) {
+        (Some(Writer::Update(_, step)), Some(Note::Wrote(write))) => step == write.step(),
+        _ => false,
+    }
+}
+
+/// Returns a read as a row of the table.
+fn listed_read<'a>(mark: &Mark<'a>, value: i64, state: i64) -> ListedRead<'a> {
+    ListedRead {
+        step: (mark.place as u64).saturating_add(1),
+        item: mark.item,
+        value,
+        writer: mark.writer.unwrap_or(Writer::Opening),
+        state,
+        state_writer: mark.state_writer.unwrap_or(Writer::Opening),
+        is_late: is_late(mark),
+        distance: mark.distance(),
+    }
+}
+
+/// Returns all reads on a lane that are off, those with the greatest distances first.
+pub fn off_reads_on<'a>(
+    alloc: Global,
+    marks: &[Mark<'a>],
+    lane: usize,
+) -> Result<Vec<ListedRead<'a>>, AllocError> {
+    let mut reads = Vec::new(alloc);
+    for index in &farthest_reads(alloc, marks, usize::MAX)? {
+        if let Some(mark) = marks.get(*index)
+            && mark.lane == lane
+            && let Action::Read {
+                value,
+                nearest: Some(state),
+            } = mark.action
+        {
+            reads.push(listed_read(mark, value, state))?;
+        }
+    }
+    Ok(reads)
+}
+
+/// Returns the other reads on a lane, in the order of their entries.
+pub fn exact_reads_on<'a>(
+    alloc: Global,
+    marks: &[Mark<'a>],
+    lane: usize,
+) -> Result<Vec<ListedRead<'a>>, AllocError> {
+    let mut reads = Vec::new(alloc);
+    for mark in marks {
+        if mark.lane == lane
+            && let Action::Read {
+                value,
+                nearest: None,
+            } = mark.action
+        {
+            reads.push(listed_read(mark, value, value))?;
+        }
+    }
+    Ok(reads)
+}
+
+/// Notes the sums that would have exceeded limits, which are in the order of their entries.
+pub fn note_excesses(marks: &mut [Mark<'_>], exceeded: &[Exceeded]) {
+    for index in 0..marks.len() {
+        if let Some(mark) = marks.get_mut(index) {
+            note_excess(mark, exceeded);
+        }
+    }
+}
+
+/// Notes the sum that would have exceeded a limit, if the event was refused because of one.
+fn note_excess(mark: &mut Mark<'_>, exceeded: &[Exceeded]) {
+    let place = mark.place;
+    if let Action::Blocked { excess, .. } = &mut mark.action
+        && let Ok(index) = exceeded.binary_search_by_key(&place, |other| other.place)
+        && let Some(found) = exceeded.get(index)
+    {
+        *excess = Some(found.excess);
+    }
+}
+
 /// Returns whether a mark is a read of a query.
 fn is_query_read(mark: &Mark<'_>, lanes: &[Lane<'_>]) -> bool {
     let is_query = lanes.get(mark.lane).is_some_and(|lane| lane.is_query());
@@ -457,24 +543,6 @@ pub fn mark_keys(
 /// Returns whether a mark bounds its lane.
 pub fn is_bound(action: Action) -> bool {
     matches!(action, Action::Begin | Action::Commit | Action::Abort)
-}
-
-/// Returns whether the note of a mark is of a write among these marks.
-fn is_explained(marks: &[Mark<'_>], index: usize) -> bool {
-    marks
-        .get(index)
-        .and_then(|mark| write_of(marks, mark))
-        .is_some()
-}
-
-/// Omits the notes of writes that are among these marks.
-pub fn omit_notes(marks: &mut [Mark<'_>]) {
-    for index in 0..marks.len() {
-        let is_explained = is_explained(marks, index);
-        if let Some(mark) = marks.get_mut(index) {
-            mark.has_note = mark.note.is_some() && !is_explained;
-        }
-    }
 }
 
 /// Returns the marks that charges depend on, and those that bound lanes.

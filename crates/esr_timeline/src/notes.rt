@@ -71,22 +71,25 @@ fn write_kept(source: Source<'_>, placement: &NearestPlacement, item: ItemId) ->
     None
 }
 
-/// Returns an update as the writer of a value, or the opening value if there is none.
-fn writer_of(source: Source<'_>, update: Option<TxnId>) -> Writer<'_> {
-    match update {
-        Some(update) => Writer::Update(name_of_transaction(source.transactions, update)),
+/// Returns the writer of a value, or the opening value if there is no write of it.
+fn writer_of(source: Source<'_>, write: Option<Write>) -> Writer<'_> {
+    match write {
+        Some(write) => Writer::Update(
+            name_of_transaction(source.transactions, write.update),
+            (write.place as u64).saturating_add(1),
+        ),
         None => Writer::Opening,
     }
 }
 
 /// Returns the writer of the value that the read of an entry returned.
 pub fn writer_read(source: Source<'_>, place: usize) -> Writer<'_> {
-    writer_of(source, write_read(source, place).map(|write| write.update))
+    writer_of(source, write_read(source, place))
 }
 
 /// Returns the writer of the value of an item in a placement.
 pub fn writer_in<'a>(source: Source<'a>, placement: &NearestPlacement, item: ItemId) -> Writer<'a> {
-    writer_of(source, placement.writer(item.0))
+    writer_of(source, write_kept(source, placement, item))
 }
 
 /// Returns a write as a note.
@@ -151,11 +154,7 @@ pub fn note_of<'a>(
     match (late, is_off) {
         (Some(write), true) => Some(wrote(source, write)),
         (None, true) => write_kept(source, placement, item).map(|write| wrote(source, write)),
-        (Some(_), false) => {
-            let writer = placement.writer(item.0);
-            let update = writer.map(|update| name_of_transaction(source.transactions, update));
-            Some(Note::Equals(update))
-        }
+        (Some(_), false) => Some(Note::Equals(writer_in(source, placement, item))),
         (None, false) => None,
     }
 }

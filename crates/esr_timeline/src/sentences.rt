@@ -8,7 +8,7 @@ use esr_chart::{
 };
 use esr_outcomes::TxnKind;
 use esr_text::{first, push_count, push_number, wrap};
-use esr_trace::{push_charge_rule, push_opening, push_summands};
+use esr_trace::{push_charge_rule, push_opening, push_summands, push_undrawn};
 use std::alloc::{AllocError, Global};
 
 /// The width of a letter of a sentence, and of the heading.
@@ -227,7 +227,7 @@ fn push_farthest(out: &mut String, farthest: Option<Farthest<'_>>) -> Result<(),
 }
 
 /// Appends a sentence with the numbers of elements that are not drawn, or nothing.
-fn push_rest(out: &mut String, rest: Rest) -> Result<(), AllocError> {
+fn push_rest(out: &mut String, query: &str, rest: Rest) -> Result<(), AllocError> {
     if rest.events == 0 && rest.charges == 0 && rest.transactions == 0 {
         return Ok(());
     }
@@ -235,7 +235,10 @@ fn push_rest(out: &mut String, rest: Rest) -> Result<(), AllocError> {
     let mut joint = " ";
     if rest.transactions > 0 {
         out.push_str(joint)?;
-        push_count(out, rest.transactions, " transaction", " transactions")?;
+        match rest.kinds {
+            Some((all, undrawn)) => push_undrawn(out, query, all, undrawn)?,
+            None => push_count(out, rest.transactions, " transaction", " transactions")?,
+        }
         joint = "; ";
     }
     if rest.events > 0 {
@@ -364,7 +367,7 @@ fn push_omissions(
     scene: &Scene<'_>,
     bands: &[Band<'_>],
 ) -> Result<(), AllocError> {
-    push_rest(out, scene.rest)?;
+    push_rest(out, scene.query.unwrap_or(""), scene.rest)?;
     if scene.rest.charges > 0 {
         out.push_str(order_sentence(scene.order))?;
     }
@@ -433,7 +436,8 @@ pub struct Line {
     pub text: String,
 }
 
-/// Adds the sentences below the heading: the nearest placement, the farthest read, what is not drawn, and the weights.
+/// Adds the sentences below the heading: the nearest placement, the farthest read, the rest that is not drawn, and the weights.
+/// Lines of sentences with many names are shorter, since a name may have wide letters only.
 fn push_sentences(
     alloc: Global,
     lines: &mut Vec<Line>,
@@ -453,12 +457,17 @@ fn push_sentences(
     words.clear();
     push_farthest(&mut words, scene.farthest)?;
     push_lines(alloc, lines, LineClass::Sentence, &words, letters)?;
+    let names = letters.saturating_mul(4) / 5;
+    push_lines(alloc, lines, LineClass::Sentence, &scene.reason, names)?;
     words.clear();
     push_mistakes(&mut words, scene.mistakes)?;
     push_lines(alloc, lines, LineClass::Sentence, &words, letters)?;
     words.clear();
     push_omissions(&mut words, scene, bands)?;
     push_lines(alloc, lines, LineClass::Sentence, &words, letters)?;
+    if scene.rest.charges > 0 {
+        push_lines(alloc, lines, LineClass::Sentence, &scene.charged_by, names)?;
+    }
     words.clear();
     push_charges(&mut words, &scene.arrows)?;
     push_lines(alloc, lines, LineClass::Sentence, &words, letters)?;

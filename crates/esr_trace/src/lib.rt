@@ -5,6 +5,8 @@
 //! safe and terminating. No clause specifies the text.
 #![tactic(auto)]
 
+mod alternative;
+mod counts;
 mod part;
 mod relevance;
 mod sentences;
@@ -14,6 +16,8 @@ mod text;
 mod trace;
 mod traces;
 
+pub use alternative::Alternative;
+pub use counts::{TxnClass, TxnCounts, class_of, push_undrawn};
 pub use part::Part;
 pub use relevance::{NearestPlacement, relevant_updates};
 pub use sentences::{

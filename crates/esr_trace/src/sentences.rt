@@ -6,8 +6,8 @@ use crate::relevance::NearestPlacement;
 use crate::subject::Audited;
 use crate::text::{MAX_NAMES, push_names, push_rest};
 use crate::trace::{QueryTrace, Sum, WriterEnd};
-use esr_history::{History, MAX_LIMIT, TxnId};
-use esr_items::{Metric, Weighted};
+use esr_history::{Entry, Event, History, MAX_LIMIT, Refusal, Reply, TxnId};
+use esr_items::{ItemId, Metric, Weighted};
 use esr_outcomes::{TxnOutcome, outcome_of};
 use esr_report::name_of_transaction;
 use esr_text::{first, push_count, push_number};
@@ -410,6 +410,74 @@ fn push_all_absent(
     out.push('.')
 }
 
+/// Returns the item of a read by this query that was refused because of a limit or a lock.
+fn refused_item(entry: Entry, query: TxnId) -> Option<ItemId> {
+    match (entry.event, entry.reply) {
+        (
+            Event::Read { txn, item },
+            Reply::Refused(
+                Refusal::BlockedByLock(_)
+                | Refusal::BlockedByImport(_)
+                | Refusal::BlockedByExport(_),
+            ),
+        ) if txn == query => Some(item),
+        _ => None,
+    }
+}
+
+/// Appends what refused a read.
+fn push_refuser(out: &mut String, audited: &Audited<'_>, reply: Reply) -> Result<(), AllocError> {
+    let (words, txn) = match reply {
+        Reply::Refused(Refusal::BlockedByLock(txn)) => ("the lock of ", txn),
+        Reply::Refused(Refusal::BlockedByImport(txn) | Refusal::BlockedByExport(txn)) => {
+            ("the limit of ", txn)
+        }
+        _ => return Ok(()),
+    };
+    out.push_str(" by ")?;
+    out.push_str(words)?;
+    out.push_str(name(audited, txn))
+}
+
+/// Appends a read that was refused.
+fn push_refused_read(
+    out: &mut String,
+    audited: &Audited<'_>,
+    (item, place): (ItemId, usize),
+    reply: Reply,
+) -> Result<(), AllocError> {
+    out.push_str(audited.items.name_of(item.0).unwrap_or(""))?;
+    out.push_str(" in step ")?;
+    push_number(out, (place as u64).saturating_add(1))?;
+    push_refuser(out, audited, reply)
+}
+
+/// Appends the first reads of the query that were refused, and the number of the others, or nothing.
+fn push_refused(out: &mut String, audited: &Audited<'_>) -> Result<(), AllocError> {
+    let log = audited.history.log();
+    let mut count = 0usize;
+    for place in 0..log.len() {
+        if let Some(entry) = log.get(place)
+            && let Some(item) = refused_item(entry, audited.finding.query)
+        {
+            if count < MAX_NAMES {
+                out.push_str(if count == 0 {
+                    "Reads that were refused and not executed: "
+                } else {
+                    ", "
+                })?;
+                push_refused_read(out, audited, (item, place), entry.reply)?;
+            }
+            count = count.saturating_add(1);
+        }
+    }
+    if count == 0 {
+        return Ok(());
+    }
+    push_rest(out, count)?;
+    out.push('.')
+}
+
 /// A sentence above the lanes.
 #[derive(Clone, Copy)]
 enum Sentence {
@@ -417,15 +485,17 @@ enum Sentence {
     Nearest,
     Charge,
     Absent,
+    Refused,
     Strict,
 }
 
 /// The sentences above the lanes, of those that there are.
-static SENTENCES: [Sentence; 5] = [
+static SENTENCES: [Sentence; 6] = [
     Sentence::Verdict,
     Sentence::Nearest,
     Sentence::Charge,
     Sentence::Absent,
+    Sentence::Refused,
     Sentence::Strict,
 ];
 
@@ -447,6 +517,7 @@ fn push_sentence(
         Sentence::Nearest => push_nearest_moment(alloc, out, audited, trace),
         Sentence::Charge => push_charge_sentence(alloc, out, audited, trace),
         Sentence::Absent => push_all_absent(alloc, out, audited, trace),
+        Sentence::Refused => push_refused(out, audited),
         Sentence::Strict => push_strict(alloc, out, audited, trace),
     }
 }

@@ -26,7 +26,7 @@ pub const BANK: &str = "item checking 500\n\
         commit report\n";
 
 /// The picture of the bank, without the first line, the style and the legend.
-static BANK_DRAWN: [&str; 26] = [
+static BANK_DRAWN: [&str; 29] = [
     "<title id='report-title'>Audit of report</title>\n",
     "<desc id='report-desc'>Off by 100, charged 100. In order: [report], transfer. savings: read 1,600, off by 100 from its place. checking: read 500, as at its place.</desc>\n",
     "<text class='h' x='20' y='28'>report: off by 100, charged 100</text>\n",
@@ -53,6 +53,9 @@ static BANK_DRAWN: [&str; 26] = [
     "<text class='q' x='20' y='510'>or more.</text>\n",
     "<text class='q' x='20' y='530'>At 1 other place of the line in this order report would</text>\n",
     "<text class='q' x='20' y='550'>be off by as much; the first is drawn.</text>\n",
+    "<text class='q' x='20' y='570'>Why transfer is not in the nearest state:</text>\n",
+    "<text class='q' x='20' y='590'>if it were, savings would be nearer by 100;</text>\n",
+    "<text class='q' x='20' y='610'>but checking farther by 100.</text>\n",
 ];
 
 /// An update, and a report that reads nothing.
@@ -105,7 +108,10 @@ fn a_report_of_the_bank_is_drawn(rt: HostRuntime) {
 /// Any text from `<svg ` to `</svg>` keeps the contract: it could lack an item's second read, or say nothing at all.
 #[test]
 fn little_is_drawn(rt: HostRuntime) {
-    let texts = ["q read no item.</text>", "Not drawn: 1 more update.</text>"];
+    let texts = [
+        "q read no item.</text>",
+        "Not drawn: 1 of 1 updates that committed before q.</text>",
+    ];
     has(&rt, rt.alloc(), NOTHING_READ, "q", &texts);
     let texts = [
         "q: off by 6, charged 6</text>",
@@ -234,7 +240,7 @@ fn of_many_updates_the_bounding_ones_are_drawn(rt: HostRuntime) {
     let of_many = [
         ("height='28'", 4),
         lanes,
-        ("Not drawn: 26 more updates.", 1),
+        ("Not drawn: 26 of 30 updates that committed before q.", 1),
         (">off by 28<", 1),
         ("At another place of the line", 0),
     ];

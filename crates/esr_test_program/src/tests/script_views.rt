@@ -193,7 +193,7 @@ fn a_page_names_its_origin_and_the_lines_with_errors(rt: HostRuntime) {
 }
 
 /// What the timeline of the bank has, of each kind of sign one.
-static BANK_TIMELINE: [&str; 13] = [
+static BANK_TIMELINE: [&str; 15] = [
     "<title id='all-timeline-title'>What happened, step by step</title>\n",
     ">report</text>\n",
     ">limit 200</text>\n",
@@ -204,9 +204,11 @@ static BANK_TIMELINE: [&str; 13] = [
     ">+100 for checking</text>\n",
     ">500 to 400</text>\n",
     "<g class='tn' transform='scale(",
-    "<title>step 7, line 9: report read savings: 1,600 (of transfer), which is 1,500 (opening) in the nearest state; transfer wrote 1,600 in step 5</title><circle class='mo' ",
+    "<title>step 7, line 9: report read savings: 1,600 (of transfer, step 5), which is 1,500 (opening) in the nearest state; transfer wrote 1,600 in step 5</title><circle class='mo' ",
     "<title>step 8, line 10: report committed</title>",
     ">off by 100</text>\n",
+    "<rect class='bo' ",
+    ">not in the nearest state</text>\n",
 ];
 
 /// A timeline of any content would keep its contract.
@@ -249,7 +251,8 @@ fn blocked_events_are_drawn(rt: HostRuntime) {
         "<title>step 5, line 6: v was blocked from reading a by the lock of u, 2 times</title><path class='mx' ",
         ">lock of u, 2 times</text>\n",
         ">read a</text>\n",
-        "<title>step 7, line 8: q was blocked from reading a by the limit of q</title>",
+        "<title>step 7, line 8: q was blocked from reading a by the limit of q: the sum would have been 2 of 1</title>",
+        ">sum 2, limit 1</text>\n",
         ">aborted</text>\n",
         ">still active</text>\n",
         ">1 line of the script has an error and is not drawn.</text>\n",

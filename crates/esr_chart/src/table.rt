@@ -1,0 +1,549 @@
+//! The table of the reads that are off, below the drawing, which may have only some of them: when each was, the value that was
+//! read and its writer, the value in the nearest state and its writer, and the difference. A list of the other reads follows, next
+//! to one another.
+//!
+//! The texts are monospaced, so the width of each column is known. A table that is too wide has fewer columns, and at last two
+//! rows for each read; a narrow picture counts the other reads only. Rejected: a table for few reads, since these are all drawn.
+
+use crate::elements::{close_text, open_end, open_text, push_text};
+use crate::layout::{MARGIN, TEXT_ROW, width_of};
+use crate::scene::{ListedRead, Scene, Writer};
+use esr_text::{first, letters_of, number_letters, push_count, push_number, push_value, wrap};
+use std::alloc::{AllocError, Global};
+
+/// The maximum number of reads that have no table.
+const FEW_READS: usize = 3;
+
+/// The maximum number of reads in a table, in one of a narrow picture, and in one with two rows for each.
+const MAX_READS: usize = 40;
+
+const MAX_NARROW_READS: usize = 24;
+
+const MAX_STACKED_READS: usize = 12;
+
+/// The maximum number of the other reads in the list.
+const MAX_LISTED: usize = 60;
+
+/// The distance of two reads in a row of the list.
+const LIST_GAP: u32 = 40;
+
+/// The maximum width of a narrow picture.
+const NARROW: u32 = 390;
+
+/// The distance of two columns.
+const COLUMN_GAP: u32 = 14;
+
+/// The width of a letter of a sentence, and the distance from line to line of sentences.
+const SENTENCE_LETTER: u32 = 8;
+
+const SENTENCE: u32 = 18;
+
+/// The distance from row to row of reads, and between the tables.
+const ROW: u32 = TEXT_ROW + 1;
+
+const SPACE: u32 = 4;
+
+/// A column of the table.
+#[derive(Clone, Copy, PartialEq, Eq)]
+enum Field {
+    Step,
+    Item,
+    Value,
+    /// The writer of the value that was read, with its step.
+    Writer,
+    /// Its name.
+    WriterName,
+    State,
+    StateWriter,
+    /// Whether the read was too late or too early.
+    Side,
+    Distance,
+}
+
+static FULL: [Field; 8] = [
+    Field::Step,
+    Field::Item,
+    Field::Value,
+    Field::Writer,
+    Field::State,
+    Field::StateWriter,
+    Field::Side,
+    Field::Distance,
+];
+
+static NAMES: [Field; 5] = [
+    Field::Item,
+    Field::Value,
+    Field::WriterName,
+    Field::State,
+    Field::Distance,
+];
+
+static VALUES: [Field; 4] = [Field::Item, Field::Value, Field::State, Field::Distance];
+
+/// The fields of the other reads.
+static LISTED: [Field; 4] = [Field::Step, Field::Item, Field::Value, Field::Writer];
+
+fn listed() -> &'static [Field] {
+    &LISTED
+}
+
+static UPPER: [Field; 2] = [Field::Item, Field::Distance];
+
+static LOWER: [Field; 2] = [Field::Value, Field::State];
+
+/// The fields of a read in one row, or in two.
+#[derive(Clone, Copy, PartialEq, Eq)]
+enum Form {
+    Full,
+    Names,
+    Values,
+    Stacked,
+}
+
+static FORMS: [Form; 3] = [Form::Full, Form::Names, Form::Values];
+
+fn forms() -> &'static [Form] {
+    &FORMS
+}
+
+/// Returns the fields in the first row of a read.
+fn upper_of(form: Form) -> &'static [Field] {
+    match form {
+        Form::Full => &FULL,
+        Form::Names => &NAMES,
+        Form::Values => &VALUES,
+        Form::Stacked => &UPPER,
+    }
+}
+
+/// Returns the fields in the second row of a read.
+fn lower_of(form: Form) -> &'static [Field] {
+    match form {
+        Form::Stacked => &LOWER,
+        _ => &[],
+    }
+}
+
+/// Returns the heading of a column.
+fn heading_of(field: Field) -> &'static str {
+    match field {
+        Field::Step => "step",
+        Field::Item => "item",
+        Field::Value => "read",
+        Field::Writer | Field::WriterName => "written by",
+        Field::State => "state",
+        Field::StateWriter => "written by",
+        Field::Side => "read",
+        Field::Distance => "off by",
+    }
+}
+
+/// Returns the letters of a writer with its step: `u1 in step 57`.
+fn writer_letters(writer: Writer<'_>) -> usize {
+    match writer {
+        Writer::Opening => 13,
+        Writer::Update(update, step) => update
+            .len()
+            .saturating_add(number_letters(step))
+            .saturating_add(9),
+    }
+}
+
+/// Returns the letters of the name of a writer.
+fn name_letters(writer: Writer<'_>) -> usize {
+    match writer {
+        Writer::Opening => 7,
+        Writer::Update(update, _) => update.len(),
+    }
+}
+
+/// Returns the letters of a field of a read.
+fn letters_in(read: &ListedRead<'_>, field: Field) -> usize {
+    match field {
+        Field::Step => number_letters(read.step),
+        Field::Item => read.item.len(),
+        Field::Value => letters_of(read.value),
+        Field::Writer => writer_letters(read.writer),
+        Field::WriterName => name_letters(read.writer),
+        Field::State => letters_of(read.state),
+        Field::StateWriter => writer_letters(read.state_writer),
+        Field::Side => 9,
+        Field::Distance => number_letters(read.distance),
+    }
+}
+
+/// Returns the width of a column of these reads.
+fn column_width(reads: &[ListedRead<'_>], field: Field) -> u32 {
+    let mut letters = heading_of(field).len();
+    for read in reads {
+        letters = letters.max(letters_in(read, field));
+    }
+    width_of(letters)
+}
+
+/// Returns the width of a row of these reads.
+fn row_width(reads: &[ListedRead<'_>], fields: &[Field]) -> u32 {
+    let mut width = 0u32;
+    for field in fields {
+        width = width
+            .saturating_add(column_width(reads, *field))
+            .saturating_add(COLUMN_GAP);
+    }
+    width.saturating_sub(COLUMN_GAP)
+}
+
+/// Returns the first form of these reads that fits into a width.
+fn form_of(reads: &[ListedRead<'_>], width: u32) -> Form {
+    for form in forms() {
+        if row_width(reads, upper_of(*form)) <= width {
+            return *form;
+        }
+    }
+    Form::Stacked
+}
+
+/// Returns whether a field is a number.
+fn is_number(field: Field) -> bool {
+    matches!(
+        field,
+        Field::Step | Field::Value | Field::State | Field::Distance
+    )
+}
+
+/// Appends a writer with its step.
+fn push_writer(out: &mut String, writer: Writer<'_>) -> Result<(), AllocError> {
+    match writer {
+        Writer::Opening => out.push_str("opening value"),
+        Writer::Update(update, step) => {
+            write!(out, "{update} in step ")?;
+            push_number(out, step)
+        }
+    }
+}
+
+/// Appends the name of a writer.
+fn push_name(out: &mut String, writer: Writer<'_>) -> Result<(), AllocError> {
+    match writer {
+        Writer::Opening => out.push_str("opening"),
+        Writer::Update(update, _) => out.push_str(update),
+    }
+}
+
+/// Appends a field of a read.
+fn push_field(out: &mut String, read: &ListedRead<'_>, field: Field) -> Result<(), AllocError> {
+    match field {
+        Field::Step => push_number(out, read.step),
+        Field::Item => out.push_str(read.item),
+        Field::Value => push_value(out, read.value),
+        Field::Writer => push_writer(out, read.writer),
+        Field::WriterName => push_name(out, read.writer),
+        Field::State => push_value(out, read.state),
+        Field::StateWriter => push_writer(out, read.state_writer),
+        Field::Side => out.push_str(if read.is_late {
+            "too late"
+        } else {
+            "too early"
+        }),
+        Field::Distance => push_number(out, read.distance),
+    }
+}
+
+/// Appends the start of a text of a field in a column from `x` on.
+fn open_field(
+    out: &mut String,
+    class: &str,
+    field: Field,
+    x: u32,
+    width: u32,
+    y: u32,
+) -> Result<(), AllocError> {
+    if is_number(field) {
+        open_end(out, class, x.saturating_add(width), y)
+    } else {
+        open_text(out, class, x, y)
+    }
+}
+
+/// Returns the class of a field of the headings, or of a read.
+fn class_of(is_heading: bool, field: Field) -> &'static str {
+    match (is_heading, field) {
+        (true, _) => "lb gy tb",
+        (false, Field::Distance) => "lb rd tb",
+        (false, _) => "lb tb",
+    }
+}
+
+/// Appends a row of the headings, or of a read, from `left` on.
+fn push_row(
+    out: &mut String,
+    reads: &[ListedRead<'_>],
+    fields: &[Field],
+    read: Option<&ListedRead<'_>>,
+    (left, y): (u32, u32),
+) -> Result<(), AllocError> {
+    let mut x = left;
+    for field in fields {
+        let width = column_width(reads, *field);
+        open_field(out, class_of(read.is_none(), *field), *field, x, width, y)?;
+        match read {
+            Some(read) => push_field(out, read, *field)?,
+            None => out.push_str(heading_of(*field))?,
+        }
+        close_text(out)?;
+        x = x.saturating_add(width).saturating_add(COLUMN_GAP);
+    }
+    Ok(())
+}
+
+/// Returns the sum of the distances of some reads.
+fn distance_of(reads: &[ListedRead<'_>]) -> u64 {
+    let mut sum = 0u64;
+    for read in reads {
+        sum = sum.saturating_add(read.distance);
+    }
+    sum
+}
+
+/// Appends what the table has, and how many other reads there are.
+fn push_words(out: &mut String, scene: &Scene<'_>, form: Form) -> Result<(), AllocError> {
+    let query = scene.nearest.map_or("", |nearest| nearest.query);
+    if !scene.off_reads.is_empty() {
+        write!(
+            out,
+            "The reads of {query} that are off, the farthest first."
+        )?;
+        if form == Form::Full {
+            out.push_str(
+                " Too late: the state is without the update that wrote the value. Too early: the state has a later value.",
+            )?;
+        }
+    }
+    Ok(())
+}
+
+/// Appends how many reads are as in the nearest state.
+fn push_exact_words(out: &mut String, scene: &Scene<'_>) -> Result<(), AllocError> {
+    let query = scene.nearest.map_or("", |nearest| nearest.query);
+    let count = scene.exact_reads.len() as u64;
+    if count == 0 {
+        return Ok(());
+    }
+    push_count(out, count, " read of ", " reads of ")?;
+    out.push_str(query)?;
+    out.push_str(if count == 1 {
+        " is as in the nearest state."
+    } else {
+        " are as in the nearest state."
+    })
+}
+
+/// The tables of the reads of a scene.
+#[derive(Drop)]
+pub struct Table {
+    /// The sentences above the reads that are off, and above the others.
+    lines: Vec<String>,
+    exact_lines: Vec<String>,
+    form: Form,
+    /// The number of reads that are off in the table, and of the others.
+    count: usize,
+    rest: usize,
+    /// The number of the other reads in the list, and in a row of it.
+    listed: usize,
+    in_row: usize,
+}
+
+/// Returns whether a scene has a table.
+fn has_table(scene: &Scene<'_>) -> bool {
+    let off = scene.off_reads.len();
+    let all = off.saturating_add(scene.exact_reads.len());
+    let has_hidden = scene.rest.events > 0;
+    scene.nearest.is_some() && (off > FEW_READS || (has_hidden && all > FEW_READS))
+}
+
+/// Returns the width that a table with all columns needs, or 0 without a table.
+pub fn table_width(scene: &Scene<'_>) -> u32 {
+    if has_table(scene) {
+        let reads = first(&scene.off_reads, MAX_READS);
+        row_width(reads, upper_of(Form::Full)).saturating_add(2 * MARGIN)
+    } else {
+        0
+    }
+}
+
+/// Returns how many reads of the list are in a row of this width.
+fn count_in_row(reads: &[ListedRead<'_>], space: u32) -> usize {
+    let width = row_width(reads, listed()).saturating_add(LIST_GAP);
+    space
+        .saturating_add(LIST_GAP)
+        .checked_div(width)
+        .unwrap_or(0) as usize
+}
+
+/// Returns the lines of some words.
+fn lines_of(alloc: Global, words: &str, space: u32) -> Result<Vec<String>, AllocError> {
+    let mut lines = Vec::new(alloc);
+    if !words.is_empty() {
+        wrap(alloc, &mut lines, (space / SENTENCE_LETTER) as usize, words)?;
+    }
+    Ok(lines)
+}
+
+/// Returns the height of some sentences.
+fn sentences_height(lines: &[String]) -> u32 {
+    (lines.len().min(100) as u32).saturating_mul(SENTENCE)
+}
+
+/// Returns the height of some rows.
+fn rows_height(rows: usize) -> u32 {
+    (rows.min(1000) as u32).saturating_mul(ROW)
+}
+
+/// Appends sentences. Returns the baseline of the next line.
+fn push_lines(out: &mut String, lines: &[String], y: u32) -> Result<u32, AllocError> {
+    let mut y = y;
+    for line in lines {
+        push_text(out, "gy", MARGIN, y, line)?;
+        y = y.saturating_add(SENTENCE);
+    }
+    Ok(y)
+}
+
+impl Table {
+    /// Returns the tables of a scene in a picture of this width, if it has any.
+    pub fn of(alloc: Global, scene: &Scene<'_>, width: u32) -> Result<Option<Table>, AllocError> {
+        if !has_table(scene) {
+            return Ok(None);
+        }
+        let is_narrow = width <= NARROW;
+        let upper_bound = if is_narrow {
+            MAX_NARROW_READS
+        } else {
+            MAX_READS
+        };
+        let reads = first(&scene.off_reads, upper_bound);
+        let reads = match form_of(reads, width.saturating_sub(2 * MARGIN)) {
+            Form::Stacked => first(reads, MAX_STACKED_READS),
+            _ => reads,
+        };
+        let others = first(&scene.exact_reads, if is_narrow { 0 } else { MAX_LISTED });
+        let space = width.saturating_sub(2 * MARGIN);
+        let form = form_of(reads, space);
+        let in_row = count_in_row(others, space);
+        let mut words = String::new(alloc);
+        push_words(&mut words, scene, form)?;
+        let lines = lines_of(alloc, &words, space)?;
+        words.clear();
+        push_exact_words(&mut words, scene)?;
+        Ok(Some(Table {
+            lines,
+            exact_lines: lines_of(alloc, &words, space)?,
+            form,
+            count: reads.len(),
+            rest: scene.off_reads.len().saturating_sub(reads.len()),
+            listed: if in_row > 0 { others.len() } else { 0 },
+            in_row: in_row.max(1),
+        }))
+    }
+
+    /// Returns the number of rows of the reads that are off, with the headings.
+    fn count_rows(&self) -> usize {
+        if self.count == 0 {
+            return 0;
+        }
+        let reads = self.count.saturating_add(1);
+        let rows = reads.saturating_mul(if self.form == Form::Stacked { 2 } else { 1 });
+        rows.saturating_add(if self.rest > 0 { 1 } else { 0 })
+    }
+
+    /// Returns the number of rows of the list.
+    fn count_list_rows(&self) -> usize {
+        self.listed
+            .saturating_add(self.in_row.saturating_sub(1))
+            .checked_div(self.in_row)
+            .unwrap_or(0)
+    }
+
+    /// Returns the height with the distance to the legend.
+    pub fn height(&self) -> u32 {
+        sentences_height(&self.lines)
+            .saturating_add(rows_height(self.count_rows()))
+            .saturating_add(sentences_height(&self.exact_lines))
+            .saturating_add(rows_height(self.count_list_rows()))
+            .saturating_add(4 * SPACE)
+    }
+
+    /// Appends the rows of a read, or of the headings. Returns the baseline of the next row.
+    fn push_read(
+        &self,
+        out: &mut String,
+        reads: &[ListedRead<'_>],
+        read: Option<&ListedRead<'_>>,
+        y: u32,
+    ) -> Result<u32, AllocError> {
+        push_row(out, reads, upper_of(self.form), read, (MARGIN, y))?;
+        let mut next = y.saturating_add(ROW);
+        if self.form == Form::Stacked {
+            push_row(out, reads, lower_of(self.form), read, (MARGIN, next))?;
+            next = next.saturating_add(ROW);
+        }
+        Ok(next)
+    }
+
+    /// Appends the number and the sum of the reads that are off and not in the table.
+    fn push_rest(&self, out: &mut String, scene: &Scene<'_>, y: u32) -> Result<u32, AllocError> {
+        if self.rest == 0 {
+            return Ok(y);
+        }
+        let reads = first(&scene.off_reads, self.count);
+        open_text(out, "lb tb", MARGIN, y)?;
+        out.push_str("and ")?;
+        push_number(out, self.rest as u64)?;
+        out.push_str(" more, together off by ")?;
+        let all = distance_of(&scene.off_reads);
+        push_number(out, all.saturating_sub(distance_of(reads)))?;
+        close_text(out)?;
+        Ok(y.saturating_add(ROW))
+    }
+
+    /// Appends the reads that are off. Returns the baseline of the next row.
+    fn push_off(&self, out: &mut String, scene: &Scene<'_>, y: u32) -> Result<u32, AllocError> {
+        let reads = first(&scene.off_reads, self.count);
+        if reads.is_empty() {
+            return Ok(y);
+        }
+        let mut next = self.push_read(out, reads, None, y)?;
+        for read in reads {
+            next = self.push_read(out, reads, Some(read), next)?;
+        }
+        self.push_rest(out, scene, next)
+    }
+
+    /// Appends the list of the other reads.
+    fn push_list(&self, out: &mut String, scene: &Scene<'_>, top: u32) -> Result<(), AllocError> {
+        let reads = first(&scene.exact_reads, self.listed);
+        let step = row_width(reads, listed()).saturating_add(LIST_GAP);
+        let mut y = top;
+        let mut x = MARGIN;
+        let mut place = 0usize;
+        for read in reads {
+            push_row(out, reads, listed(), Some(read), (x, y))?;
+            place = place.saturating_add(1);
+            x = x.saturating_add(step);
+            if place == self.in_row {
+                place = 0;
+                x = MARGIN;
+                y = y.saturating_add(ROW);
+            }
+        }
+        Ok(())
+    }
+
+    /// Appends the tables, whose first baseline is at `y`.
+    pub fn push(&self, out: &mut String, scene: &Scene<'_>, y: u32) -> Result<(), AllocError> {
+        let y = push_lines(out, &self.lines, y)?;
+        let y = self.push_off(out, scene, y)?.saturating_add(SPACE);
+        let y = push_lines(out, &self.exact_lines, y)?;
+        self.push_list(out, scene, y)
+    }
+}
