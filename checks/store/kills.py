@@ -13,7 +13,8 @@ has read. Whatever a call has returned goes through a pipe. After each kill:
 
 A planted fault has to be found. They are: `early`, calls return before the store has their update; `reports`, the ends of
 reports and exceptions do not wait; `split`, a write takes two transactions of the store; `order`, updates enter the queue in
-another order than that of their commits.
+another order than that of their commits. Each transaction of the store then takes at least PAUSE seconds, so that most kills
+interrupt one.
 """
 
 import os
@@ -27,6 +28,7 @@ import time
 from transfers import ACCOUNTS, COUNTERS, ITEMS, THREADS, TOTAL, Balances, demand, last_of, store_of, transfer
 
 LIFETIME = 0.6
+PAUSE = 0.02
 
 
 def plant(fault):
@@ -34,9 +36,13 @@ def plant(fault):
 
     write_changes = StoreQueue._write_changes
 
+    def slow(queue, changes):
+        time.sleep(PAUSE)
+        return write_changes(queue, changes)
+
     def split(queue, changes):
         half = len(changes) // 2
-        return (write_changes(queue, changes[:half]) if half else None) or write_changes(queue, changes[half:])
+        return (slow(queue, changes[:half]) if half else None) or slow(queue, changes[half:])
 
     def out_of_order(queue, changes):
         ticket = Ticket(changes)
@@ -45,6 +51,7 @@ def plant(fault):
             queue._filled.notify()
         return ticket
 
+    StoreQueue._write_changes = slow
     if fault == "early":
         StoreQueue.wait = lambda queue, ticket: None
     elif fault == "reports":

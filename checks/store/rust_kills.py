@@ -8,7 +8,9 @@ module `sqlite3`, after the recovery that SQLite does itself. The Rust bank reop
 
 A planted fault is an edit of the copy, and has to be found. They are: `early`, calls return before the store has their update;
 `reports`, reports and bodies that fail do not wait; `split`, a write takes two transactions of the store; `first`, the store
-gets the first value of an item in a group in place of the last.
+gets the first value of an item in a group in place of the last. Each transaction of the store then takes at least PAUSE
+milliseconds, so that most kills interrupt one. Without the pause, a store that writes within a millisecond hides a fault from
+40 kills in some runs.
 """
 
 import os
@@ -23,21 +25,34 @@ from transfers import ACCOUNTS, TOP, Balances, demand
 
 WORD = 2**64 - 1
 QUEUE = "src/store/queue.rs"
+PAUSE = 20
+SLEEP = f"        std::thread::sleep(std::time::Duration::from_millis({PAUSE}));\n"
+WRITE = "        self.store.call(|store| store.write(number, &named))"
+SLOW = (WRITE, SLEEP + WRITE)
 FAULTS = {
-    "early": ("            if state.finished >= place.group {", "            if state.finished >= place.group || place.group > Group(0) {"),
-    "reports": ("                group: state.last(),", "                group: Group(0),"),
-    "split": (
-        "        self.store.call(|store| store.write(number, &named))",
-        "        let (some, others) = named.split_at(named.len() / 2);\n"
-        "        if !some.is_empty() {\n"
-        "            self.store.call(|store| store.write(number, some))?;\n"
-        "        }\n"
-        "        self.store.call(|store| store.write(number, others))",
-    ),
-    "first": (
-        "            state.latest[number] = value;",
-        "            if !state.is_dirty[number] {\n                state.latest[number] = value;\n            }",
-    ),
+    "early": [
+        ("            if state.finished >= place.group {", "            if state.finished >= place.group || place.group > Group(0) {"),
+        SLOW,
+    ],
+    "reports": [("                group: state.last(),", "                group: Group(0),"), SLOW],
+    "split": [
+        (
+            WRITE,
+            "        let (some, others) = named.split_at(named.len() / 2);\n"
+            "        if !some.is_empty() {\n"
+            "            self.store.call(|store| store.write(number, some))?;\n"
+            "        }\n"
+            f"{SLEEP}"
+            "        self.store.call(|store| store.write(number, others))",
+        ),
+    ],
+    "first": [
+        (
+            "            state.latest[number] = value;",
+            "            if !state.is_dirty[number] {\n                state.latest[number] = value;\n            }",
+        ),
+        SLOW,
+    ],
 }
 
 
@@ -56,8 +71,7 @@ def built(folder, fault):
     ignored = shutil.ignore_patterns("target")
     # with new times, so that cargo builds what a plant has changed before
     shutil.copytree(TOP / "bindings/rust", package, ignore=ignored, copy_function=shutil.copy, dirs_exist_ok=True)
-    if fault:
-        old, new = FAULTS[fault]
+    for old, new in FAULTS.get(fault, []):
         text = (package / QUEUE).read_text(encoding="utf-8")
         if text.count(old) != 1:
             raise SystemExit(f"the fault {fault} does not fit {QUEUE}")
