@@ -9,7 +9,7 @@ use esr_history::TxnId;
 use esr_outcomes::Auditor;
 use esr_report::name_of_transaction;
 use esr_text::{first, push_number};
-use esr_trace::{Audited, Part, QueryTrace, sum_error};
+use esr_trace::{Audited, Part, Traced, Traces, sum_error};
 use esr_views::Recording;
 use std::alloc::{AllocError, Global};
 
@@ -99,18 +99,18 @@ impl<T: Part, P: Part, W: Part> Page<'_, T, P, W> {
         audited: &Audited<'_>,
         auditor: &Auditor<'_>,
         lines: &[u32],
-        trace: &QueryTrace,
+        traced: Traced<'_>,
     ) -> Result<(), AllocError> {
         let name = name_of_transaction(audited.transactions, audited.finding.query);
         open_part(out, "Timeline", name)?;
         self.timeline
-            .push(alloc, out, audited, auditor, lines, trace)?;
+            .push(alloc, out, audited, auditor, lines, traced)?;
         out.push_str("</div>\n")?;
         open_part(out, "Picture", name)?;
         self.picture
-            .push(alloc, out, audited, auditor, lines, trace)?;
+            .push(alloc, out, audited, auditor, lines, traced)?;
         out.push_str("</div>\n</div>\n")?;
-        self.words.push(alloc, out, audited, auditor, lines, trace)
+        self.words.push(alloc, out, audited, auditor, lines, traced)
     }
 
     /// A query with picture and words.
@@ -121,7 +121,7 @@ impl<T: Part, P: Part, W: Part> Page<'_, T, P, W> {
         recording: &Recording<'_>,
         auditor: &Auditor<'_>,
         finding: &Finding,
-        trace: &QueryTrace,
+        traced: Traced<'_>,
     ) -> Result<(), AllocError> {
         let audited = Audited {
             items: &recording.items,
@@ -132,14 +132,14 @@ impl<T: Part, P: Part, W: Part> Page<'_, T, P, W> {
         let name = name_of_transaction(&recording.transactions, finding.query);
         let sum_error = sum_error(alloc, auditor, finding.query, &finding.before)?;
         push_heading(out, name, finding.distance, sum_error)?;
-        self.push(alloc, out, &audited, auditor, recording.lines, trace)?;
+        self.push(alloc, out, &audited, auditor, recording.lines, traced)?;
         write!(
             out,
             "<p><a href='#r-{name}'>{name} in the table</a></p></section>\n"
         )
     }
 
-    /// Appends pictures and sentences of these queries, which have these traces.
+    /// Appends pictures and sentences of these queries, which are among those of the traces.
     pub fn push_details(
         &self,
         alloc: Global,
@@ -147,11 +147,13 @@ impl<T: Part, P: Part, W: Part> Page<'_, T, P, W> {
         recording: &Recording<'_>,
         auditor: &Auditor<'_>,
         explained: &[TxnId],
-        traces: &[QueryTrace],
+        traces: &Traces,
     ) -> Result<(), AllocError> {
-        for (query, trace) in explained.iter().zip(traces) {
-            if let Some(finding) = auditor.finding(alloc, *query)? {
-                self.push_explained(alloc, out, recording, auditor, &finding, trace)?;
+        for query in explained {
+            if let Some(finding) = auditor.finding(alloc, *query)?
+                && let Some(traced) = traces.of(*query)
+            {
+                self.push_explained(alloc, out, recording, auditor, &finding, traced)?;
             }
         }
         Ok(())

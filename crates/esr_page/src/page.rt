@@ -272,8 +272,7 @@ impl<T: Part, P: Part, W: Part> Page<'_, T, P, W> {
         self.push_details(alloc, out, recording, &audits.auditor, worst, &traces)?;
         push_overview(alloc, out, recording, all, audits)?;
         out.push_str(next_heading_of(others))?;
-        let next = traces.get(1..).unwrap_or(&[]);
-        self.push_details(alloc, out, recording, &audits.auditor, others, next)?;
+        self.push_details(alloc, out, recording, &audits.auditor, others, &traces)?;
         push_order(out, &recording.transactions, &audits.order)?;
         out.push_str(script())
     }

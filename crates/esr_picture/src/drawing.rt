@@ -7,7 +7,7 @@ use crate::scene::scene_of;
 use esr_lint::Notes;
 use esr_outcomes::Auditor;
 use esr_svg::{MAX_ERROR_LETTERS, Parts, parts_of, svg_element};
-use esr_trace::{Audited, Part, QueryTrace, trace_of};
+use esr_trace::{Audited, Part, QueryTrace, Traced, trace_of};
 use esr_views::{AuditedQuery, QueryView};
 use std::alloc::{AllocError, Global};
 
@@ -121,8 +121,8 @@ impl Part for PictureView {
         audited: &Audited<'_>,
         _: &Auditor<'_>,
         _: &[u32],
-        trace: &QueryTrace,
+        traced: Traced<'_>,
     ) -> Result<(), AllocError> {
-        out.push_str(&picture_with(alloc, audited, trace, Vec::new(alloc))?)
+        out.push_str(&picture_with(alloc, audited, traced.trace, Vec::new(alloc))?)
     }
 }

@@ -115,7 +115,7 @@ fn push_more_charges(
     blocks: &mut Vec<Block>,
     trace: &QueryTrace,
 ) -> Result<(), AllocError> {
-    let mut more = trace.charge_count;
+    let mut more = trace.all_charges.len() as u64;
     let mut sum = trace.charge_sum();
     for charge in &trace.charges {
         more = more.saturating_sub(charge.count);
@@ -194,7 +194,7 @@ fn push_each(
         push_charge(add_point(alloc, blocks)?, subject, charge)?;
     }
     push_more_charges(alloc, blocks, trace)?;
-    if trace.charge_count < 2 {
+    if trace.all_charges.len() < 2 {
         return Ok(());
     }
     push_sums(alloc, add_paragraph(alloc, blocks)?, subject, trace)

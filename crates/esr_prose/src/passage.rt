@@ -3,7 +3,7 @@
 use crate::prose::{Block, BlockKind, prose_of};
 use crate::subject::Subject;
 use esr_outcomes::Auditor;
-use esr_trace::{Audited, Part, QueryTrace};
+use esr_trace::{Audited, Part, Traced};
 use std::alloc::{AllocError, Global};
 
 /// Blocks as markup.
@@ -33,7 +33,7 @@ impl Part for Passage {
         audited: &Audited<'_>,
         auditor: &Auditor<'_>,
         lines: &[u32],
-        trace: &QueryTrace,
+        traced: Traced<'_>,
     ) -> Result<(), AllocError> {
         let subject = Subject {
             items: audited.items,
@@ -44,6 +44,6 @@ impl Part for Passage {
             auditor,
             finding: Some(audited.finding),
         };
-        push_blocks(out, &prose_of(alloc, &subject, trace)?)
+        push_blocks(out, &prose_of(alloc, &subject, traced.trace)?)
     }
 }

@@ -7,11 +7,10 @@
 //! Rejected: all charges for the item, since those after a read that was too late explain nothing.
 
 use crate::predecessors::ChargedPredecessors;
-use crate::source::Source;
+use crate::source::{PlacedQuery, Source};
 use esr_chart::{Arrow, Relation};
 use esr_history::{Event, TxnId};
 use esr_items::ItemId;
-use esr_outcomes::QueryAudit;
 use esr_trace::{NearestPlacement, ObservedRead, QueryTrace};
 use std::alloc::{AllocError, Global};
 
@@ -92,17 +91,17 @@ impl Causes {
         }
     }
 
-    /// Notes the placement and the distances of a committed query with this audit.
+    /// Notes the placement and the distances of a committed query.
     fn fill(
         &mut self,
         alloc: Global,
         source: Source<'_>,
-        query: TxnId,
-        audit: &QueryAudit,
+        placed: &PlacedQuery<'_>,
         trace: &QueryTrace,
     ) -> Result<(), AllocError> {
         let count = source.history.begun_count().saturating_add(1);
-        self.placement = NearestPlacement::after(alloc, source.history, &audit.before)?;
+        let query = placed.finding.query;
+        self.placement = placed.placement.copy(alloc)?;
         self.by_item = vec![in alloc; 0u64; source.history.items() as usize]?;
         self.by_writer = vec![in alloc; 0u64; count]?;
         self.predecessors = ChargedPredecessors::of(alloc, source, query, trace, &self.placement)?;
@@ -110,32 +109,15 @@ impl Causes {
         Ok(())
     }
 
-    /// Returns the causes of a committed query with this audit.
-    fn of_audit(
-        alloc: Global,
-        source: Source<'_>,
-        query: TxnId,
-        audit: &QueryAudit,
-        trace: &QueryTrace,
-    ) -> Result<Causes, AllocError> {
+    /// Returns the causes of the placed query. There are none unless it is off.
+    pub fn of(alloc: Global, source: Source<'_>, trace: &QueryTrace) -> Result<Causes, AllocError> {
         let mut causes = Causes::none(alloc);
-        causes.fill(alloc, source, query, audit, trace)?;
-        Ok(causes)
-    }
-
-    /// Returns the causes of a query. There are none unless it committed and is off.
-    pub fn of(
-        alloc: Global,
-        source: Source<'_>,
-        query: TxnId,
-        trace: &QueryTrace,
-    ) -> Result<Causes, AllocError> {
-        match source.auditor.summary(alloc, query)? {
-            Some(audit) if audit.distance > 0 => {
-                Causes::of_audit(alloc, source, query, &audit, trace)
-            }
-            _ => Ok(Causes::none(alloc)),
+        if let Some(placed) = source.placed
+            && placed.finding.distance > 0
+        {
+            causes.fill(alloc, source, placed, trace)?;
         }
+        Ok(causes)
     }
 
     /// Returns the cause of each read that is off, those of the farthest reads first.

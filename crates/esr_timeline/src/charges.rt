@@ -1,10 +1,11 @@
-//! The charges between lanes, as a machine that replays the history makes them.
+//! The charges between lanes, as a machine that replays the history makes them: those to one query from its trace, those to all
+//! queries of a short script from a replay.
 
 use crate::causes::{Causes, ranking};
 use crate::lanes::lane_at;
 use crate::marks::line_at;
 use crate::source::Source;
-use esr_chart::{Arrow, Excess, Lane, Relation};
+use esr_chart::{Arrow, Lane, Relation};
 use esr_history::TxnId;
 use esr_items::Metric;
 use esr_report::name_of_transaction;
@@ -13,42 +14,31 @@ use esr_trace::{QueryTrace, Sum};
 use esr_trace_events::{Change, Charge, Charges};
 use std::alloc::{AllocError, Global};
 
-/// The queries whose charges are drawn.
+/// A charge of an entry to the query of a lane.
 #[derive(Clone, Copy)]
-pub enum ChargedQueries {
-    /// One query.
-    One(TxnId),
-    /// All queries that have lanes.
-    All,
+struct LaneCharge {
+    to: usize,
+    place: usize,
+    update: TxnId,
+    change: Change,
+    amount: u64,
 }
 
-impl ChargedQueries {
-    /// Returns whether the charges to a query are drawn.
-    fn contain(self, query: TxnId) -> bool {
-        match self {
-            ChargedQueries::One(one) => one == query,
-            ChargedQueries::All => true,
-        }
-    }
-}
-
-/// Returns the arrow of a charge of an entry to the query of a lane.
+/// Returns the arrow of a charge.
 fn arrow_of<'a>(
     source: Source<'a>,
     causes: &Causes,
     lanes: &[Lane<'a>],
-    to: usize,
-    place: usize,
-    charge: &Charge,
+    charge: LaneCharge,
 ) -> Arrow<'a> {
     let Change { item, old, new } = charge.change;
-    let entry = source.history.log().get(place);
+    let entry = source.history.log().get(charge.place);
     Arrow {
         update: charge.update,
         from: lane_at(lanes, charge.update),
-        to,
-        place,
-        line: line_at(source, place),
+        to: charge.to,
+        place: charge.place,
+        line: line_at(source, charge.place),
         item: source.items.name_of(item.0).unwrap_or(""),
         weight: source.history.metric().distance(item, 0, 1),
         amount: charge.amount,
@@ -62,118 +52,82 @@ fn arrow_of<'a>(
     }
 }
 
-/// Adds the charges of an entry.
+/// Returns the charges to the query of a trace, which has the first lane.
+pub fn charges_in<'a>(
+    alloc: Global,
+    source: Source<'a>,
+    causes: &Causes,
+    lanes: &[Lane<'a>],
+    trace: &QueryTrace,
+) -> Result<Vec<Arrow<'a>>, AllocError> {
+    let mut arrows = Vec::new(alloc);
+    for charge in &trace.all_charges {
+        let charge = LaneCharge {
+            to: 0,
+            place: charge.place,
+            update: charge.update,
+            change: Change {
+                item: charge.item,
+                old: charge.old,
+                new: charge.new,
+            },
+            amount: charge.amount,
+        };
+        arrows.push(arrow_of(source, causes, lanes, charge))?;
+    }
+    Ok(arrows)
+}
+
+/// Adds the charges of an entry to the queries that have lanes.
 fn push_charges<'a>(
     arrows: &mut Vec<Arrow<'a>>,
     source: Source<'a>,
     causes: &Causes,
     lanes: &[Lane<'a>],
-    charged_queries: ChargedQueries,
     place: usize,
     charges: &[Charge],
 ) -> Result<(), AllocError> {
     for charge in charges {
-        if charged_queries.contain(charge.query)
-            && let Some(to) = lane_at(lanes, charge.query)
-        {
-            arrows.push(arrow_of(source, causes, lanes, to, place, charge))?;
+        if let Some(to) = lane_at(lanes, charge.query) {
+            let charge = LaneCharge {
+                to,
+                place,
+                update: charge.update,
+                change: charge.change,
+                amount: charge.amount,
+            };
+            arrows.push(arrow_of(source, causes, lanes, charge))?;
         }
     }
     Ok(())
 }
 
-/// Returns the number of entries up to the end of the queries.
-fn count_entries(source: Source<'_>, charged_queries: ChargedQueries) -> usize {
-    let count = source.history.log().len();
-    let end = match charged_queries {
-        ChargedQueries::One(query) => source.history.facts(query).and_then(|facts| facts.end),
-        ChargedQueries::All => None,
-    };
-    end.map_or(count, |end| count.min((end as usize).saturating_add(1)))
-}
-
-/// An entry that was refused since a sum of charges would have exceeded a limit.
-#[derive(Clone, Copy)]
-pub struct Exceeded {
-    pub place: usize,
-    pub excess: Excess,
-}
-
-/// The charges to queries, and the entries that were refused because of a limit, both in the order of their entries.
-#[derive(Drop)]
-pub struct Replayed<'a> {
-    pub arrows: Vec<Arrow<'a>>,
-    pub exceeded: Vec<Exceeded>,
-}
-
-/// Adds the next entry, if it was refused because of a limit.
-fn push_exceeded(
-    alloc: Global,
-    exceeded: &mut Vec<Exceeded>,
-    charges: &Charges<'_>,
-    place: usize,
-) -> Result<(), AllocError> {
-    if let Some(found) = charges.excess(alloc)? {
-        exceeded.push(Exceeded {
-            place,
-            excess: Excess {
-                sum: found.sum,
-                limit: found.limit,
-            },
-        })?;
-    }
-    Ok(())
-}
-
-/// Adds the charges of the entries of a replay up to the end of the queries.
+/// Adds the charges of the entries of a replay.
 fn push_all_charges<'a>(
     alloc: Global,
-    all: &mut Replayed<'a>,
+    arrows: &mut Vec<Arrow<'a>>,
     charges: &mut Charges<'_>,
     source: Source<'a>,
-    causes: &Causes,
     lanes: &[Lane<'a>],
-    charged_queries: ChargedQueries,
 ) -> Result<(), AllocError> {
-    for place in 0..count_entries(source, charged_queries) {
-        push_exceeded(alloc, &mut all.exceeded, charges, place)?;
+    let causes = Causes::none(alloc);
+    for place in 0..source.history.log().len() {
         let charges = charges.step(alloc)?;
-        push_charges(
-            &mut all.arrows,
-            source,
-            causes,
-            lanes,
-            charged_queries,
-            place,
-            &charges,
-        )?;
+        push_charges(arrows, source, &causes, lanes, place, &charges)?;
     }
     Ok(())
 }
 
-/// Returns the charges to queries that have lanes, and the entries that were refused because of a limit.
-pub fn charges_to<'a>(
+/// Returns the charges to all queries that have lanes, in the order of their entries. They explain no read.
+pub fn charges_to_all<'a>(
     alloc: Global,
     source: Source<'a>,
-    causes: &Causes,
     lanes: &[Lane<'a>],
-    charged_queries: ChargedQueries,
-) -> Result<Replayed<'a>, AllocError> {
-    let mut all = Replayed {
-        arrows: Vec::new(alloc),
-        exceeded: Vec::new(alloc),
-    };
+) -> Result<Vec<Arrow<'a>>, AllocError> {
+    let mut arrows = Vec::new(alloc);
     let mut charges = Charges::new(alloc, source.history)?;
-    push_all_charges(
-        alloc,
-        &mut all,
-        &mut charges,
-        source,
-        causes,
-        lanes,
-        charged_queries,
-    )?;
-    Ok(all)
+    push_all_charges(alloc, &mut arrows, &mut charges, source, lanes)?;
+    Ok(arrows)
 }
 
 /// Returns the same charges between other lanes: those to queries that have one of them.

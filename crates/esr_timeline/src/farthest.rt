@@ -1,11 +1,11 @@
 //! The farthest read of a query, with the charge that explains it best.
 
 use crate::causes::{Causes, ranking};
-use crate::source::Source;
+use crate::source::{PlacedQuery, Source};
 use esr_chart::{Arrow, Farthest, Reason};
 use esr_history::{Event, TxnId};
 use esr_report::name_of_transaction;
-use esr_trace::{Alternative, NearestPlacement, ObservedRead, QueryTrace};
+use esr_trace::{Alternative, ObservedRead, QueryTrace};
 use std::alloc::{AllocError, Global};
 
 /// Returns the charge that explains a read best: of its group the first in the ranking, and after the read if that came too
@@ -94,21 +94,18 @@ pub fn farthest_read<'a>(
 pub fn reason_of_farthest(
     alloc: Global,
     source: Source<'_>,
-    query: TxnId,
+    placed: &PlacedQuery<'_>,
     trace: &QueryTrace,
 ) -> Result<String, AllocError> {
     let mut words = String::new(alloc);
-    let Some(finding) = source.auditor.finding(alloc, query)? else {
-        return Ok(words);
-    };
-    let placement = NearestPlacement::after(alloc, source.history, &finding.before)?;
-    let causes = placement.causes(alloc, source.history, trace)?;
+    let finding = placed.finding;
+    let causes = placed.placement.causes(alloc, source.history, trace)?;
     let Some(update) = causes.first() else {
         return Ok(words);
     };
     let set = &finding.certificate.set;
     if let Some(alternative) = Alternative::of(alloc, &finding.problem, set, *update)? {
-        let name = name_of_transaction(source.transactions, query);
+        let name = name_of_transaction(source.transactions, finding.query);
         alternative.push(&mut words, source.items, source.transactions, name)?;
     }
     Ok(words)

@@ -5,13 +5,13 @@
 
 use crate::causes::Causes;
 use crate::charges::{
-    ChargeSums, ChargedQueries, Exceeded, Replayed, between, charges_to, drawable, greatest,
-    sum_of, with_drawn, with_exports,
+    ChargeSums, between, charges_in, charges_to_all, drawable, greatest, sum_of, with_drawn,
+    with_exports,
 };
 use crate::farthest::{farthest_read, reason_of_farthest};
 use crate::lanes::{
-    MAX_CHARGERS, MAX_LANES, chargers, concerned, counts_of, farthest, first_begun, lane_at,
-    lanes_of, nearest_to, note_sides,
+    MAX_CHARGERS, MAX_LANES, chargers, concerned, counts_of, first_begun, lane_at, lanes_of,
+    nearest_to, note_sides,
 };
 use crate::marks::{
     count_off_reads, exact_reads_on, keys_of, mark_keys, mark_query_reads, marks_of, marks_on,
@@ -26,7 +26,7 @@ use esr_chart::{
 use esr_history::TxnId;
 use esr_report::name_of_transaction;
 use esr_text::first;
-use esr_trace::{QueryTrace, TxnCounts, trace_of};
+use esr_trace::{Exceeded, QueryTrace, Traced, TxnCounts, traces_of};
 use std::alloc::{AllocError, Global};
 
 /// The wide layout of a timeline: no band is wider, unless one event is.
@@ -330,6 +330,13 @@ struct Choice<'a> {
     hidden_off: usize,
 }
 
+/// What is drawn at a stage, with its layout, before the texts of its scene.
+#[derive(Drop)]
+struct Attempt<'a> {
+    choice: Choice<'a>,
+    layout: Layout<'a>,
+}
+
 impl<'a> Choice<'a> {
     /// Returns references to its parts.
     fn drawn(&self) -> Drawn<'a, '_> {
@@ -563,69 +570,80 @@ impl<'a> Material<'a> {
         })
     }
 
-    /// Returns the timeline of a choice.
-    fn picture_of(
+    /// Returns what is drawn at a stage, with its layout.
+    fn attempt(
         &self,
         alloc: Global,
-        choice: Choice<'a>,
-        layout: Layout<'a>,
+        stage: Stage,
+        format: Format,
+    ) -> Result<Attempt<'a>, AllocError> {
+        let choice = self.choice(alloc, stage.detail)?;
+        let layout = layout_of(alloc, choice.drawn(), stage.spacing, format)?;
+        Ok(Attempt { choice, layout })
+    }
+
+    /// Returns the timeline of an attempt.
+    fn picture(
+        &self,
+        alloc: Global,
+        attempt: Attempt<'a>,
         heads: Heads,
     ) -> Result<Picture<'a>, AllocError> {
+        let Attempt { choice, layout } = attempt;
         let all_charges = between(alloc, &self.charges, &self.lanes, &choice.lanes)?;
         let scene = self.scene(alloc, choice, all_charges, heads)?;
         Ok(Picture { scene, layout })
     }
 
-    /// Returns the timeline at a stage.
-    fn picture(
-        &self,
-        alloc: Global,
-        stage: Stage,
-        format: Format,
-    ) -> Result<Picture<'a>, AllocError> {
-        let choice = self.choice(alloc, stage.detail)?;
-        let layout = layout_of(alloc, choice.drawn(), stage.spacing, format)?;
-        self.picture_of(alloc, choice, layout, format.heads)
-    }
-
-    /// Returns the timeline at the first stage at which it fits.
+    /// Returns the attempt at the first stage at which it fits.
     fn first_fitting(
         &self,
         alloc: Global,
         stages: &[Stage],
         format: Format,
-    ) -> Result<Option<Picture<'a>>, AllocError> {
+    ) -> Result<Option<Attempt<'a>>, AllocError> {
         for stage in stages {
             if self.may_fit(alloc, stage.detail)? {
-                let picture = self.picture(alloc, *stage, format)?;
-                if picture.layout.is_complete {
-                    return Ok(Some(picture));
+                let attempt = self.attempt(alloc, *stage, format)?;
+                if attempt.layout.is_complete {
+                    return Ok(Some(attempt));
                 }
             }
         }
         Ok(None)
     }
 
-    /// Returns the timeline in one band if nothing has to be omitted, else at the first stage at which it fits, or at the
-    /// last one.
+    /// Returns the attempt in one band if nothing has to be omitted, else at the first stage at which it fits, or at the last
+    /// one.
+    fn best_attempt(
+        &self,
+        alloc: Global,
+        stages: &[Stage],
+        format: Format,
+    ) -> Result<Attempt<'a>, AllocError> {
+        let one_band = Format { bands: 1, ..format };
+        if let Some(attempt) = self.first_fitting(alloc, all(), one_band)? {
+            return Ok(attempt);
+        }
+        if let Some(attempt) = self.first_fitting(alloc, stages, format)? {
+            return Ok(attempt);
+        }
+        let last = Stage {
+            detail: Detail::All,
+            spacing: TIGHT,
+        };
+        self.attempt(alloc, stages.last().copied().unwrap_or(last), format)
+    }
+
+    /// Returns the timeline in a format.
     fn fitting(
         &self,
         alloc: Global,
         stages: &[Stage],
         format: Format,
     ) -> Result<Picture<'a>, AllocError> {
-        let one_band = Format { bands: 1, ..format };
-        if let Some(picture) = self.first_fitting(alloc, all(), one_band)? {
-            return Ok(picture);
-        }
-        if let Some(picture) = self.first_fitting(alloc, stages, format)? {
-            return Ok(picture);
-        }
-        let last = Stage {
-            detail: Detail::All,
-            spacing: TIGHT,
-        };
-        self.picture(alloc, stages.last().copied().unwrap_or(last), format)
+        let attempt = self.best_attempt(alloc, stages, format)?;
+        self.picture(alloc, attempt, format.heads)
     }
 
     /// Returns both layouts.
@@ -702,19 +720,21 @@ fn material_on<'a>(
     })
 }
 
-/// Adds the nearest placement of a query, and what explains its reads that are off.
+/// Adds the nearest placement of the placed query, and what explains its reads that are off.
 fn add_nearest<'a>(
     alloc: Global,
     material: &mut Material<'a>,
-    query: TxnId,
     trace: &QueryTrace,
     farthest: Option<Farthest<'a>>,
 ) -> Result<(), AllocError> {
     let source = material.source;
-    material.nearest = nearest_to(alloc, source, query, trace)?;
+    let Some(placed) = source.placed else {
+        return Ok(());
+    };
+    material.nearest = Some(nearest_to(alloc, source, placed, trace)?);
     material.farthest = farthest;
-    material.reason = reason_of_farthest(alloc, source, query, trace)?;
-    if let Some(lane) = lane_at(&material.lanes, query) {
+    material.reason = reason_of_farthest(alloc, source, placed, trace)?;
+    if let Some(lane) = lane_at(&material.lanes, placed.finding.query) {
         material.off_reads = off_reads_on(alloc, &material.marks, lane)?;
         material.exact_reads = exact_reads_on(alloc, &material.marks, lane)?;
     }
@@ -739,60 +759,65 @@ fn material_about<'a>(
     alloc: Global,
     source: Source<'a>,
     query: TxnId,
-    trace: &QueryTrace,
+    traced: Traced<'_>,
     own: &[Lane<'a>],
     causes: &Causes,
 ) -> Result<Material<'a>, AllocError> {
-    let all = charges_to(alloc, source, causes, own, ChargedQueries::One(query))?;
-    let Replayed { arrows, exceeded } = all;
+    let trace = traced.trace;
+    let arrows = charges_in(alloc, source, causes, own, trace)?;
     let of_reads = causes.of_reads(alloc, source, trace)?;
     let mut lanes = lanes_about(alloc, source, query, trace, &of_reads, &arrows)?;
-    note_sides(alloc, source, query, &mut lanes)?;
+    note_sides(source, &mut lanes);
     let charges = between(alloc, &arrows, own, &lanes)?;
     let farthest = farthest_read(alloc, source, query, causes, trace, &arrows)?;
-    let mut material = material_on(alloc, source, Some(query), lanes, charges, &exceeded)?;
+    let mut material = material_on(alloc, source, Some(query), lanes, charges, traced.exceeded)?;
     if let Some(lane) = lane_at(&material.lanes, query) {
         complete_notes(source, causes, &mut material.marks, lane);
     }
     material.causes = of_reads;
     material.chargers = chargers(alloc, trace, MAX_CHARGERS)?;
     material.charge_sums = ChargeSums::of(alloc, trace)?;
-    add_nearest(alloc, &mut material, query, trace, farthest)?;
+    add_nearest(alloc, &mut material, trace, farthest)?;
     Ok(material)
 }
 
-/// Returns the timeline of a query and the transactions that concern it.
+/// Returns the timeline of a query and the transactions that concern it. If it has committed, it is the placed query.
 pub fn timeline_of_query<'a>(
     alloc: Global,
     source: Source<'a>,
     query: TxnId,
-    trace: &QueryTrace,
+    traced: Traced<'_>,
 ) -> Result<Pictures<'a>, AllocError> {
     let own = lanes_of(alloc, source, &[query])?;
-    let causes = Causes::of(alloc, source, query, trace)?;
-    let material = material_about(alloc, source, query, trace, &own, &causes)?;
+    let causes = Causes::of(alloc, source, traced.trace)?;
+    let material = material_about(alloc, source, query, traced, &own, &causes)?;
     material.pictures(alloc, one(), NARROW_FORMAT)
 }
 
-/// Returns the material of the transactions that began first, with the sides of the nearest placement of this query.
+/// Returns the timeline of a query, with its trace.
+pub fn timeline_of_traced<'a>(
+    alloc: Global,
+    source: Source<'a>,
+    query: TxnId,
+) -> Result<Pictures<'a>, AllocError> {
+    let traces = traces_of(alloc, source.history, &[query])?;
+    match traces.of(query) {
+        Some(traced) => timeline_of_query(alloc, source, query, traced),
+        None => Err(AllocError),
+    }
+}
+
+/// Returns the material of the transactions that began first, with the sides of the nearest placement of the placed query.
 fn material_of_first<'a>(
     alloc: Global,
     source: Source<'a>,
-    query: Option<TxnId>,
+    exceeded: &[Exceeded],
 ) -> Result<Material<'a>, AllocError> {
     let chosen = first_begun(alloc, source, MAX_LANES)?;
     let mut lanes = lanes_of(alloc, source, &chosen)?;
-    if let Some(query) = query {
-        note_sides(alloc, source, query, &mut lanes)?;
-    }
-    let Replayed { arrows, exceeded } = charges_to(
-        alloc,
-        source,
-        &Causes::none(alloc),
-        &lanes,
-        ChargedQueries::All,
-    )?;
-    material_on(alloc, source, None, lanes, arrows, &exceeded)
+    note_sides(source, &mut lanes);
+    let arrows = charges_to_all(alloc, source, &lanes)?;
+    material_on(alloc, source, None, lanes, arrows, exceeded)
 }
 
 /// Returns the farthest read of a query, if it is off.
@@ -803,21 +828,29 @@ fn farthest_read_of<'a>(
     trace: &QueryTrace,
 ) -> Result<Option<Farthest<'a>>, AllocError> {
     let own = lanes_of(alloc, source, &[query])?;
-    let causes = Causes::of(alloc, source, query, trace)?;
-    let all = charges_to(alloc, source, &causes, &own, ChargedQueries::One(query))?;
-    farthest_read(alloc, source, query, &causes, trace, &all.arrows)
+    let causes = Causes::of(alloc, source, trace)?;
+    let arrows = charges_in(alloc, source, &causes, &own, trace)?;
+    farthest_read(alloc, source, query, &causes, trace, &arrows)
 }
 
-/// Returns the material of a whole script with the nearest placement and the farthest read of the query with the greatest
-/// distance.
+/// Returns the material of the transactions that began first, if no query has committed.
+fn material_of_start<'a>(alloc: Global, source: Source<'a>) -> Result<Material<'a>, AllocError> {
+    let traces = traces_of(alloc, source.history, &[])?;
+    material_of_first(alloc, source, &traces.exceeded)
+}
+
+/// Returns the material of a whole script with the nearest placement and the farthest read of the placed query.
 fn material_of_whole<'a>(alloc: Global, source: Source<'a>) -> Result<Material<'a>, AllocError> {
-    let Some(query) = farthest(alloc, source.auditor)? else {
-        return material_of_first(alloc, source, None);
+    let Some(placed) = source.placed else {
+        return material_of_start(alloc, source);
     };
-    let trace = trace_of(alloc, source.history, query)?;
-    let farthest = farthest_read_of(alloc, source, query, &trace)?;
-    let mut material = material_of_first(alloc, source, Some(query))?;
-    add_nearest(alloc, &mut material, query, &trace, farthest)?;
+    let query = placed.finding.query;
+    let traces = traces_of(alloc, source.history, &[query])?;
+    let mut material = material_of_first(alloc, source, &traces.exceeded)?;
+    if let Some(traced) = traces.of(query) {
+        let farthest = farthest_read_of(alloc, source, query, traced.trace)?;
+        add_nearest(alloc, &mut material, traced.trace, farthest)?;
+    }
     Ok(material)
 }
 
@@ -843,20 +876,16 @@ fn timeline_of_whole<'a>(
     }
 }
 
-/// Returns the timeline of the query with the greatest distance, and of the transactions that began first if no query has
-/// committed.
+/// Returns the timeline of the placed query, and of the transactions that began first if there is none.
 fn timeline_of_farthest<'a>(alloc: Global, source: Source<'a>) -> Result<Pictures<'a>, AllocError> {
-    match farthest(alloc, source.auditor)? {
-        Some(query) => {
-            let trace = trace_of(alloc, source.history, query)?;
-            timeline_of_query(alloc, source, query, &trace)
-        }
-        None => material_of_first(alloc, source, None)?.pictures(alloc, beginning(), NARROW_FORMAT),
+    match source.placed {
+        Some(placed) => timeline_of_traced(alloc, source, placed.finding.query),
+        None => material_of_start(alloc, source)?.pictures(alloc, beginning(), NARROW_FORMAT),
     }
 }
 
-/// Returns the timeline of a whole script if it is short and fits, else of the query with the greatest distance, and of the
-/// transactions that began first if no query has committed.
+/// Returns the timeline of a whole script if it is short and fits, else of the placed query, which is the one with the greatest
+/// distance, and of the transactions that began first if no query has committed.
 pub fn timeline_of_script<'a>(
     alloc: Global,
     source: Source<'a>,

@@ -1,7 +1,7 @@
 //! Which transactions have a lane: all of a short script; else the query, and the transactions that concern it.
 
 use crate::causes::ranking;
-use crate::source::Source;
+use crate::source::{PlacedQuery, Source};
 use esr_chart::{Arrow, Lane, Nearest};
 use esr_history::{Entry, Refusal, Reply, TxnId};
 use esr_outcomes::{Auditor, kind_of, outcome_of};
@@ -180,10 +180,7 @@ fn placement_of(
     if lane.distance.is_none() {
         return Ok(NearestPlacement::none(alloc));
     }
-    match source.auditor.summary(alloc, lane.txn)? {
-        Some(audit) => NearestPlacement::after(alloc, source.history, &audit.before),
-        None => Ok(NearestPlacement::none(alloc)),
-    }
+    source.placement(alloc, lane.txn)
 }
 
 /// Returns the number of updates that committed before a query did.
@@ -213,30 +210,25 @@ fn last_of(source: Source<'_>, updates: &[TxnId]) -> Option<(TxnId, usize)> {
     last
 }
 
-/// Returns the nearest placement of a query, if it has committed.
+/// Returns the nearest placement of a query.
 pub fn nearest_to<'a>(
     alloc: Global,
     source: Source<'a>,
-    query: TxnId,
+    placed: &PlacedQuery<'_>,
     trace: &QueryTrace,
-) -> Result<Option<Nearest<'a>>, AllocError> {
-    match source.auditor.summary(alloc, query)? {
-        Some(audit) => {
-            let last = last_of(source, &audit.before);
-            let placement = NearestPlacement::after(alloc, source.history, &audit.before)?;
-            Ok(Some(Nearest {
-                query: name_of_transaction(source.transactions, query),
-                distance: audit.distance,
-                off_reads: off_reads(source.history, &placement, trace),
-                opening_distance: opening_distance(alloc, source.history, trace)?,
-                updates: audit.before.len() as u64,
-                committed: count_committed(source, query),
-                last: last.map_or("", |(txn, _)| name_of_transaction(source.transactions, txn)),
-                step: last.map_or(0, |(_, place)| (place as u64).saturating_add(1)),
-            }))
-        }
-        None => Ok(None),
-    }
+) -> Result<Nearest<'a>, AllocError> {
+    let finding = placed.finding;
+    let last = last_of(source, &finding.before);
+    Ok(Nearest {
+        query: name_of_transaction(source.transactions, finding.query),
+        distance: finding.distance,
+        off_reads: off_reads(source.history, &placed.placement, trace),
+        opening_distance: opening_distance(alloc, source.history, trace)?,
+        updates: finding.before.len() as u64,
+        committed: count_committed(source, finding.query),
+        last: last.map_or("", |(txn, _)| name_of_transaction(source.transactions, txn)),
+        step: last.map_or(0, |(_, place)| (place as u64).saturating_add(1)),
+    })
 }
 
 /// Returns for each lane the nearest placement of its query.
@@ -263,7 +255,7 @@ fn lane_of<'a>(alloc: Global, source: Source<'a>, txn: TxnId) -> Result<Lane<'a>
         charged: source.history.import(txn),
         drawn: 0,
         outcome: outcome_of(source.history, txn),
-        distance: source.auditor.distance(alloc, txn)?,
+        distance: source.distance(alloc, txn)?,
         in_state: None,
     })
 }
@@ -281,25 +273,18 @@ pub fn lanes_of<'a>(
     Ok(lanes)
 }
 
-/// Notes which updates are before the nearest placement of a query, if it has committed.
-pub fn note_sides(
-    alloc: Global,
-    source: Source<'_>,
-    query: TxnId,
-    lanes: &mut [Lane<'_>],
-) -> Result<(), AllocError> {
-    let Some(audit) = source.auditor.summary(alloc, query)? else {
-        return Ok(());
+/// Notes which updates are before the nearest placement of the placed query, if there is one.
+pub fn note_sides(source: Source<'_>, lanes: &mut [Lane<'_>]) {
+    let Some(placed) = source.placed else {
+        return;
     };
-    let placement = NearestPlacement::after(alloc, source.history, &audit.before)?;
     for index in 0..lanes.len() {
         if let Some(lane) = lanes.get_mut(index)
             && !lane.is_query()
         {
-            lane.in_state = Some(placement.has_before(lane.txn));
+            lane.in_state = Some(placed.placement.has_before(lane.txn));
         }
     }
-    Ok(())
 }
 
 /// Returns the numbers of the transactions of some lanes by their kinds, as seen from a query.

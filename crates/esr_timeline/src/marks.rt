@@ -1,14 +1,13 @@
 //! The marks on lanes: one pass over the log. An event that was blocked and tried again at once has one mark.
 
-use crate::charges::Exceeded;
 use crate::lanes::{blocker_of, lane_at, placements_of};
 use crate::notes::{note_of, writer_in, writer_read};
 use crate::source::Source;
-use esr_chart::{Action, Arrow, Cause, Lane, ListedRead, Mark, Mistakes, Note, Writer};
+use esr_chart::{Action, Arrow, Cause, Excess, Lane, ListedRead, Mark, Mistakes, Note, Writer};
 use esr_history::{Entry, Event, Refusal, Reply, TxnId};
 use esr_items::{ItemId, Metric};
 use esr_report::name_of_transaction;
-use esr_trace::NearestPlacement;
+use esr_trace::{Exceeded, NearestPlacement};
 use std::alloc::{AllocError, Global};
 
 /// Returns the line of an entry, or 0 if it is not known.
@@ -501,7 +500,10 @@ fn note_excess(mark: &mut Mark<'_>, exceeded: &[Exceeded]) {
         && let Ok(index) = exceeded.binary_search_by_key(&place, |other| other.place)
         && let Some(found) = exceeded.get(index)
     {
-        *excess = Some(found.excess);
+        *excess = Some(Excess {
+            sum: found.sum,
+            limit: found.limit,
+        });
     }
 }
 

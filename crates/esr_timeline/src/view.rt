@@ -4,13 +4,15 @@ ghost use Rattle.std.specs.Prelude.{IfOk, string_bytes};
 ghost use Rattle.esr_svg.specs.Svg.{IsSvg};
 
 use crate::drawing::{Parts, parts_of};
-use crate::fit::{Pictures, timeline_of_query, timeline_of_script};
-use crate::source::Source;
+use crate::fit::{Pictures, timeline_of_query, timeline_of_script, timeline_of_traced};
+use crate::lanes::farthest;
+use crate::source::{PlacedQuery, Source};
+use esr_audit::Finding;
 use esr_history::TxnId;
 use esr_lint::Notes;
 use esr_outcomes::Auditor;
 use esr_svg::svg_element;
-use esr_trace::{Audited, Part, QueryTrace, trace_of};
+use esr_trace::{Audited, Part, Traced};
 use esr_views::{Recording, ScriptView};
 use std::alloc::{AllocError, Global};
 
@@ -39,24 +41,47 @@ fn query_of(recording: &Recording<'_>, name: &str) -> Option<TxnId> {
 }
 
 /// Returns what a timeline is drawn from.
-fn source_of<'a>(recording: &'a Recording<'_>, auditor: &'a Auditor<'a>) -> Source<'a> {
+fn source_of<'a>(
+    recording: &'a Recording<'_>,
+    auditor: &'a Auditor<'a>,
+    placed: Option<&'a PlacedQuery<'a>>,
+) -> Source<'a> {
     Source {
         items: &recording.items,
         transactions: &recording.transactions,
         history: &recording.history,
         auditor,
         lines: recording.lines,
+        placed,
     }
 }
 
-/// Returns the timeline of a query.
-fn pictures_of_query<'a>(
+/// Returns the finding of a query, or of the one with the greatest distance, if it has committed.
+fn finding_of(
     alloc: Global,
-    source: Source<'a>,
-    query: TxnId,
-) -> Result<Pictures<'a>, AllocError> {
-    let trace = trace_of(alloc, source.history, query)?;
-    timeline_of_query(alloc, source, query, &trace)
+    auditor: &Auditor<'_>,
+    query: Option<TxnId>,
+) -> Result<Option<Finding>, AllocError> {
+    let query = match query {
+        Some(query) => Some(query),
+        None => farthest(alloc, auditor)?,
+    };
+    match query {
+        Some(query) => auditor.finding(alloc, query),
+        None => Ok(None),
+    }
+}
+
+/// Returns the query of a finding, if there is one.
+fn placed_in<'a>(
+    alloc: Global,
+    recording: &Recording<'_>,
+    finding: &'a Option<Finding>,
+) -> Result<Option<PlacedQuery<'a>>, AllocError> {
+    match finding {
+        Some(finding) => Ok(Some(PlacedQuery::of(alloc, &recording.history, finding)?)),
+        None => Ok(None),
+    }
 }
 
 /// Returns the timeline of a query, or of the whole script.
@@ -66,7 +91,7 @@ fn pictures_of<'a>(
     query: Option<TxnId>,
 ) -> Result<Pictures<'a>, AllocError> {
     match query {
-        Some(query) => pictures_of_query(alloc, source, query),
+        Some(query) => timeline_of_traced(alloc, source, query),
         None => timeline_of_script(alloc, source),
     }
 }
@@ -81,7 +106,9 @@ fn text_about<'a>(
     ensures { IfOk result (λ text. IsSvg text.items) }
 {
     let auditor = Auditor::of(alloc, &recording.history)?;
-    let source = source_of(recording, &auditor);
+    let finding = finding_of(alloc, &auditor, query)?;
+    let placed = placed_in(alloc, recording, &finding)?;
+    let source = source_of(recording, &auditor, placed.as_ref());
     let pictures = pictures_of(alloc, source, query)?;
     let text = svg_of(alloc, pictures, errors)?;
     Ok(text.into_bytes())
@@ -120,16 +147,19 @@ impl Part for TimelinePart {
         audited: &Audited<'_>,
         auditor: &Auditor<'_>,
         lines: &[u32],
-        trace: &QueryTrace,
+        traced: Traced<'_>,
     ) -> Result<(), AllocError> {
+        let placed = PlacedQuery::of(alloc, audited.history, audited.finding)?;
         let source = Source {
             items: audited.items,
             transactions: audited.transactions,
             history: audited.history,
             auditor,
             lines,
+            placed: Some(&placed),
         };
-        let pictures = timeline_of_query(alloc, source, audited.finding.query, trace)?;
+        let query = audited.finding.query;
+        let pictures = timeline_of_query(alloc, source, query, traced)?;
         out.push_str(&svg_of(alloc, pictures, 0)?)
     }
 }

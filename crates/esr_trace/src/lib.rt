@@ -28,4 +28,4 @@ pub use subject::Audited;
 pub use sum_errors::sum_error;
 pub use text::{MAX_NAMES, outcome_words, push_names, push_rest};
 pub use trace::{Cause, ChargeGroup, ObservedRead, QueryTrace, Sum, WriterEnd};
-pub use traces::{trace_of, traces_of};
+pub use traces::{Exceeded, Traced, Traces, trace_of, traces_of};

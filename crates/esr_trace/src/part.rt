@@ -1,7 +1,7 @@
 //! A part of a page.
 
 use crate::subject::Audited;
-use crate::trace::QueryTrace;
+use crate::traces::Traced;
 use esr_outcomes::Auditor;
 use std::alloc::{AllocError, Global};
 
@@ -9,7 +9,8 @@ use std::alloc::{AllocError, Global};
 ///
 /// The caller passes the parts to the page, so the crates of the page and of its parts do not depend on each other.
 pub trait Part {
-    /// Appends it, as markup. The auditor is that of the history, whose entries are of these lines of the script.
+    /// Appends it, as markup. The auditor is that of the history, whose entries are of these lines of the script. The trace is
+    /// that of the query.
     fn push(
         &self,
         alloc: Global,
@@ -17,6 +18,6 @@ pub trait Part {
         audited: &Audited<'_>,
         auditor: &Auditor<'_>,
         lines: &[u32],
-        trace: &QueryTrace,
+        traced: Traced<'_>,
     ) -> Result<(), AllocError>;
 }

@@ -70,6 +70,15 @@ impl NearestPlacement {
         Ok(placement)
     }
 
+    /// Returns a copy.
+    pub fn copy(&self, alloc: Global) -> Result<NearestPlacement, AllocError> {
+        Ok(NearestPlacement {
+            is_before: self.is_before.to_vec(alloc)?,
+            writers: self.writers.to_vec(alloc)?,
+            values: self.values.to_vec(alloc)?,
+        })
+    }
+
     /// Returns whether a transaction is an update before the placement.
     pub fn has_before(&self, txn: TxnId) -> bool {
         self.is_before.get(txn.0 as usize) == Some(&true)

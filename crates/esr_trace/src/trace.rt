@@ -11,7 +11,7 @@ use esr_items::{ItemId, Metric};
 use esr_replay::imported;
 use std::alloc::{AllocError, Global};
 
-/// So many charges are kept one by one. Those of the same reads, one after another, are kept as one.
+/// The maximum number of first charges.
 const MAX_CHARGES: usize = 12;
 
 /// The outcome of a transaction at the end of the query. It differs from `TxnOutcome`, which is that at the end of the
@@ -137,9 +137,10 @@ pub struct QueryTrace {
     by_item: Vec<u64>,
     /// Each value that the query read of an item, once.
     pub observed_reads: Vec<ObservedRead>,
-    /// The first charges, and how many there are of all.
+    /// All charges, each by itself.
+    pub all_charges: Vec<ChargeGroup>,
+    /// The first charges, those of the same reads as one.
     pub charges: Vec<ChargeGroup>,
-    pub charge_count: u64,
     /// True if charges were dropped.
     is_cut: bool,
     /// The number of updates that committed before the query.
@@ -167,14 +168,19 @@ impl QueryTrace {
             by_update: vec![in alloc; 0u64; numbers]?,
             by_item: vec![in alloc; 0u64; items]?,
             observed_reads: Vec::new(alloc),
+            all_charges: Vec::new(alloc),
             charges: Vec::new(alloc),
-            charge_count: 0,
             is_cut: false,
             committed: 0,
             begin: facts.map(|facts| facts.begin as usize),
             is_strict: facts.is_some_and(|facts| facts.strict),
             has_ended: false,
         })
+    }
+
+    /// Returns whether the trace is that of a query.
+    pub fn is_of(&self, query: TxnId) -> bool {
+        self.query == query
     }
 
     /// Returns the outcome of a transaction.
@@ -189,7 +195,7 @@ impl QueryTrace {
         }
         add_to(&mut self.by_update, charge.update.0, charge.amount);
         add_to(&mut self.by_item, charge.item.0, charge.amount);
-        self.charge_count = self.charge_count.saturating_add(1);
+        self.all_charges.push(charge)?;
         self.keep(charge)
     }
 

@@ -1,11 +1,13 @@
-//! The traces of several queries, from one replay of their history.
+//! The traces of several queries, and the sums that would have exceeded a limit, from one replay of their history.
+//!
+//! A replay takes as long as a run, so a page makes one for all queries that it describes.
 
 use crate::trace::QueryTrace;
 use esr_core::Machine;
-use esr_history::{Entry, Event, History, TxnId};
+use esr_history::{Entry, Event, History, Refusal, Reply, TxnId};
 use esr_items::Metric;
 use esr_order::accesses_of;
-use esr_replay::{MetricRef, Replay};
+use esr_replay::{MetricRef, Replay, imported};
 use std::alloc::{AllocError, Global};
 
 /// An item before an entry that reads or writes it.
@@ -27,13 +29,93 @@ pub struct Step {
     pub before: Option<ItemState>,
 }
 
+/// An entry that was refused because of a limit.
+#[derive(Clone, Copy)]
+pub struct Exceeded {
+    /// The place of the entry in the log.
+    pub place: usize,
+    /// The sum of charges that the event would have reached.
+    pub sum: u64,
+    pub limit: u64,
+}
+
+/// The traces of several queries.
+#[derive(Drop)]
+pub struct Traces {
+    /// The traces, in the order of the queries that were asked for.
+    pub queries: Vec<QueryTrace>,
+    /// The entries that were refused because of a limit, in their order.
+    pub exceeded: Vec<Exceeded>,
+}
+
+/// The trace of a query among those of others.
+#[derive(Clone, Copy)]
+pub struct Traced<'a> {
+    pub trace: &'a QueryTrace,
+    /// The entries of the history that were refused because of a limit, in their order.
+    pub exceeded: &'a [Exceeded],
+}
+
+impl Traces {
+    /// Returns the trace of a query, if it was asked for.
+    pub fn of(&self, query: TxnId) -> Option<Traced<'_>> {
+        for trace in &self.queries {
+            if trace.is_of(query) {
+                return Some(Traced {
+                    trace,
+                    exceeded: &self.exceeded,
+                });
+            }
+        }
+        None
+    }
+}
+
 /// The traces up to an entry.
 #[derive(Drop)]
 struct Recorder<'a, M: Metric> {
     replay: Replay<'a, M>,
     /// The update that left the committed value of each item.
     keepers: Vec<Option<TxnId>>,
-    traces: Vec<QueryTrace>,
+    traces: Traces,
+}
+
+/// Returns the sum of some charges.
+fn sum_of(charges: &[(TxnId, u64)]) -> u64 {
+    let mut sum = 0u64;
+    for (_, amount) in charges {
+        sum = sum.saturating_add(*amount);
+    }
+    sum
+}
+
+/// Returns the sum that the next entry would have reached, with the charges that the machine computes, if it was refused because
+/// of a limit.
+fn exceeded_by<M: Metric>(
+    alloc: Global,
+    machine: &Machine<MetricRef<'_, M>>,
+    entry: Entry,
+    place: usize,
+) -> Result<Option<Exceeded>, AllocError> {
+    let mut charges = Vec::new(alloc);
+    let (txn, used, due) = match entry.reply {
+        Reply::Refused(Refusal::BlockedByImport(query)) => {
+            machine.due(&mut charges, entry.event)?;
+            let used = machine.history().import(query);
+            (query, used, imported(&charges, query))
+        }
+        Reply::Refused(Refusal::BlockedByExport(update)) => {
+            machine.due(&mut charges, entry.event)?;
+            (update, machine.export(update), sum_of(&charges))
+        }
+        _ => return Ok(None),
+    };
+    let facts = machine.history().facts(txn);
+    Ok(Some(Exceeded {
+        place,
+        sum: used.saturating_add(due),
+        limit: facts.map_or(0, |facts| facts.limit),
+    }))
 }
 
 /// Returns the item of an event that a machine is about to execute.
@@ -75,7 +157,7 @@ impl<M: Metric> Recorder<'_, M> {
         if let Event::Commit { txn } = step.entry.event {
             self.note_keeper(alloc, txn)?;
         }
-        for trace in &mut self.traces {
+        for trace in &mut self.traces.queries {
             let history = self.replay.machine().history();
             trace.note(history, step, self.replay.imports())?;
         }
@@ -88,6 +170,9 @@ impl<M: Metric> Recorder<'_, M> {
             return Ok(());
         };
         let place = self.replay.machine().log().len();
+        if let Some(exceeded) = exceeded_by(alloc, self.replay.machine(), entry, place)? {
+            self.traces.exceeded.push(exceeded)?;
+        }
         let before = state_of(self.replay.machine(), &self.keepers, entry.event);
         if self.replay.step().is_err() {
             return Err(AllocError);
@@ -120,7 +205,10 @@ fn recorder_of<'a, M: Metric>(
     queries: &[TxnId],
 ) -> Result<Recorder<'a, M>, AllocError> {
     let keepers = vec![in alloc; None; history.items() as usize]?;
-    let traces = empty_traces(alloc, history, queries)?;
+    let traces = Traces {
+        queries: empty_traces(alloc, history, queries)?,
+        exceeded: Vec::new(alloc),
+    };
     match Replay::new(alloc, history) {
         Ok(replay) => Ok(Recorder {
             replay,
@@ -149,7 +237,7 @@ pub fn traces_of<M: Metric>(
     alloc: Global,
     history: &History<M>,
     queries: &[TxnId],
-) -> Result<Vec<QueryTrace>, AllocError> {
+) -> Result<Traces, AllocError> {
     let mut recorder = recorder_of(alloc, history, queries)?;
     recorder.run(alloc, history.log().len())?;
     let Recorder { traces, .. } = recorder;
@@ -162,7 +250,7 @@ pub fn trace_of<M: Metric>(
     history: &History<M>,
     query: TxnId,
 ) -> Result<QueryTrace, AllocError> {
-    match traces_of(alloc, history, &[query])?.pop() {
+    match traces_of(alloc, history, &[query])?.queries.pop() {
         Some(trace) => Ok(trace),
         None => QueryTrace::new(alloc, history, query),
     }

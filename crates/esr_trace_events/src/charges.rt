@@ -2,9 +2,9 @@
 //! the numbers of the queries; they are shown in the order in which the queries have read the item.
 
 use esr_core::Machine;
-use esr_history::{Event, History, Refusal, Reply, TxnId};
+use esr_history::{Event, History, Reply, TxnId};
 use esr_items::{ItemId, Weighted};
-use esr_replay::{MetricRef, Replay, imported};
+use esr_replay::{MetricRef, Replay};
 use std::alloc::{AllocError, Global};
 
 /// A charge of an entry.
@@ -58,22 +58,6 @@ fn change_of(machine: &Machine<MetricRef<'_, Weighted>>, event: Event) -> Option
             new: current,
         },
     })
-}
-
-/// A limit, and the sum of charges that an event would have reached, if it was refused because that is greater.
-#[derive(Clone, Copy)]
-pub struct Excess {
-    pub sum: u64,
-    pub limit: u64,
-}
-
-/// Returns the sum of some charges.
-fn sum_of(charges: &[(TxnId, u64)]) -> u64 {
-    let mut sum = 0u64;
-    for (_, amount) in charges {
-        sum = sum.saturating_add(*amount);
-    }
-    sum
 }
 
 /// Returns no readers of any item.
@@ -185,33 +169,6 @@ impl<'a> Charges<'a> {
         let queries = active(alloc, self.replay.machine(), readers)?;
         *readers = queries.to_vec(alloc)?;
         self.charges_to(alloc, &queries, update, change)
-    }
-
-    /// Returns the limit that the next entry would have exceeded, if it was refused because of a limit, with the sum that the
-    /// machine computes.
-    pub fn excess(&self, alloc: Global) -> Result<Option<Excess>, AllocError> {
-        let Some(entry) = self.replay.next() else {
-            return Ok(None);
-        };
-        let machine = self.replay.machine();
-        let mut charges = Vec::new(alloc);
-        let (txn, used, due) = match entry.reply {
-            Reply::Refused(Refusal::BlockedByImport(query)) => {
-                machine.due(&mut charges, entry.event)?;
-                let used = machine.history().import(query);
-                (query, used, imported(&charges, query))
-            }
-            Reply::Refused(Refusal::BlockedByExport(update)) => {
-                machine.due(&mut charges, entry.event)?;
-                (update, machine.export(update), sum_of(&charges))
-            }
-            _ => return Ok(None),
-        };
-        let facts = machine.history().facts(txn);
-        Ok(Some(Excess {
-            sum: used.saturating_add(due),
-            limit: facts.map_or(0, |facts| facts.limit),
-        }))
     }
 
     /// Executes the next entry. Returns its charges.
