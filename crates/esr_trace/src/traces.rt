@@ -93,10 +93,12 @@ fn sum_of(charges: &[(TxnId, u64)]) -> u64 {
 /// of a limit.
 fn exceeded_by<M: Metric>(
     alloc: Global,
-    machine: &Machine<MetricRef<'_, M>>,
-    entry: Entry,
-    place: usize,
+    replay: &Replay<'_, M>,
 ) -> Result<Option<Exceeded>, AllocError> {
+    let Some(entry) = replay.next() else {
+        return Ok(None);
+    };
+    let machine = replay.machine();
     let mut charges = Vec::new(alloc);
     let (txn, used, due) = match entry.reply {
         Reply::Refused(Refusal::BlockedByImport(query)) => {
@@ -112,7 +114,7 @@ fn exceeded_by<M: Metric>(
     };
     let facts = machine.history().facts(txn);
     Ok(Some(Exceeded {
-        place,
+        place: machine.log().len(),
         sum: used.saturating_add(due),
         limit: facts.map_or(0, |facts| facts.limit),
     }))
@@ -170,7 +172,7 @@ impl<M: Metric> Recorder<'_, M> {
             return Ok(());
         };
         let place = self.replay.machine().log().len();
-        if let Some(exceeded) = exceeded_by(alloc, self.replay.machine(), entry, place)? {
+        if let Some(exceeded) = exceeded_by(alloc, &self.replay)? {
             self.traces.exceeded.push(exceeded)?;
         }
         let before = state_of(self.replay.machine(), &self.keepers, entry.event);
