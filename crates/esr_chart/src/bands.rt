@@ -127,7 +127,7 @@ fn push_heads(out: &mut String, scene: &Scene<'_>, band: &Band<'_>) -> Result<()
 }
 
 /// Returns the class of the band of a lane.
-fn band_class(lane: &Lane<'_>) -> &'static str {
+pub fn band_class(lane: &Lane<'_>) -> &'static str {
     let is_outside = lane.in_state == Some(false);
     match (lane.is_query(), lane.outcome != TxnOutcome::Committed) {
         (false, false) if is_outside => "bo",

@@ -55,7 +55,12 @@ fn value_letters(column: &Column<'_>) -> usize {
     match mark.action {
         Action::Read { .. } => read_letters(column),
         Action::Write { value } => letters_of(value),
-        Action::Blocked { times, excess, .. } => {
+        Action::Blocked {
+            value,
+            times,
+            excess,
+            ..
+        } => {
             let count = if times > 1 {
                 number_letters(times).saturating_add(8)
             } else {
@@ -63,7 +68,9 @@ fn value_letters(column: &Column<'_>) -> usize {
             };
             // "limit of " has 9 letters, as "its limit" has.
             let blocker = mark.blocker.len().saturating_add(9).saturating_add(count);
-            blocker.max(excess_letters(excess))
+            // "tried to read" has 13 letters.
+            let attempt = value.map_or(13, |value| letters_of(value).saturating_add(15));
+            blocker.max(attempt).max(excess_letters(excess))
         }
         Action::Begin | Action::Commit | Action::Abort => 0,
     }
@@ -72,9 +79,6 @@ fn value_letters(column: &Column<'_>) -> usize {
 /// Returns the letters above a mark.
 fn item_letters(mark: &Mark<'_>) -> usize {
     let more = match mark.action {
-        Action::Blocked { value, .. } => {
-            value.map_or(6, |value| letters_of(value).saturating_add(9))
-        }
         Action::Read { .. } => weight_letters(mark.weight),
         _ => 0,
     };

@@ -1,6 +1,6 @@
 //! The legend: what each sign means, of those that occur, in rows as wide as the picture.
 
-use crate::bands::is_early_read;
+use crate::bands::{band_class, is_early_read};
 use crate::elements::{push_circle, push_continued, push_cross, push_rect, push_square, push_text};
 use crate::layout::{Band, Layout, MARGIN, charges_between};
 use crate::limits::has_bar;
@@ -175,8 +175,24 @@ fn push_arrow(out: &mut String, class: &str, x: u32, y: u32, tip: &str) -> Resul
     )
 }
 
+/// Returns the class of a lane that is not of a committed transaction, or nothing.
+fn open_class(lanes: &[Lane<'_>]) -> &'static str {
+    for lane in lanes {
+        if lane.outcome != TxnOutcome::Committed {
+            return band_class(lane);
+        }
+    }
+    ""
+}
+
 /// Appends the sign of a key.
-fn push_sign(out: &mut String, key: Key, x: u32, y: u32, tip: &str) -> Result<(), AllocError> {
+fn push_sign(
+    out: &mut String,
+    scene: &Scene<'_>,
+    key: Key,
+    (x, y): (u32, u32),
+    tip: &str,
+) -> Result<(), AllocError> {
     let middle = x.saturating_add(13);
     let height = y.saturating_sub(4);
     let top = y.saturating_sub(9);
@@ -193,7 +209,7 @@ fn push_sign(out: &mut String, key: Key, x: u32, y: u32, tip: &str) -> Result<()
         }
         Key::InState => push_rect(out, "bu", x, top, 26, 10),
         Key::Outside => push_rect(out, "bo", x, top, 26, 10),
-        Key::Open => push_rect(out, "bo op", x, top, 26, 10),
+        Key::Open => push_rect(out, open_class(&scene.lanes), x, top, 26, 10),
         Key::Continued => {
             push_rect(out, "bu", x, top, 15, 10)?;
             push_continued(out, x.saturating_add(17), height)
@@ -218,7 +234,7 @@ pub fn push_legend(
             let row = place.checked_div(length).unwrap_or(0);
             let x = MARGIN.saturating_add(KEY_WIDTH.saturating_mul(column));
             let low = y.saturating_add(ROW.saturating_mul(row));
-            push_sign(out, *key, x, low, tip)?;
+            push_sign(out, scene, *key, (x, low), tip)?;
             push_text(out, "gy", x.saturating_add(34), low, words_of(*key))?;
             place = place.saturating_add(1);
         }

@@ -8,6 +8,7 @@
 #![tactic(auto)]
 
 mod bands;
+mod charge_table;
 mod edges;
 mod elements;
 mod head;
@@ -21,6 +22,7 @@ mod table;
 mod titles;
 
 pub use bands::push_bands;
+pub use charge_table::ChargeTable;
 pub use elements::push_text;
 pub use head::{
     Size, Sizes, open_narrow, prefix_of, push_attributes, push_background, push_head,
@@ -29,7 +31,7 @@ pub use head::{
 pub use layout::{Band, Drawn, Format, Heads, Layout, MARGIN, Spacing, layout_of};
 pub use legend::{legend_height, push_legend};
 pub use scene::{
-    Action, Arrow, Cause, Excess, Farthest, Lane, ListedRead, Mark, Mistakes, Nearest, Note,
-    NotedWrite, Order, Reason, Relation, Rest, Scene, Writer,
+    Action, Arrow, Cause, ChargeSum, Excess, Farthest, Lane, ListedRead, Mark, Mistakes, Nearest,
+    Note, NotedWrite, Order, Reason, Relation, Rest, Scene, Writer,
 };
 pub use table::{Table, table_width};

@@ -72,10 +72,10 @@ pub fn has_row(column: &Column<'_>, row: Row) -> bool {
 /// Returns the number of rows below a mark after the first one.
 pub fn count_more_rows(column: &Column<'_>) -> u32 {
     if let Action::Blocked { excess, .. } = column.mark.action {
-        return if excess.is_some() && column.has_label {
-            1
-        } else {
-            0
+        return match (column.has_label, excess) {
+            (false, _) => 0,
+            (true, None) => 1,
+            (true, Some(_)) => 2,
         };
     }
     let mut count = 0u32;

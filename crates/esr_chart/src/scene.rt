@@ -306,8 +306,15 @@ pub struct Scene<'a> {
     pub off_reads: Vec<ListedRead<'a>>,
     /// Its other reads, in the order of their steps.
     pub exact_reads: Vec<ListedRead<'a>>,
-    /// The sums of the charges to the query by update, as words, or nothing.
-    pub charged_by: String,
+    /// The sums of the charges to the query by update, the greatest first.
+    pub charge_sums: Vec<ChargeSum<'a>>,
+}
+
+/// The sum of the charges of an update to the query.
+#[derive(Clone, Copy)]
+pub struct ChargeSum<'a> {
+    pub update: &'a str,
+    pub amount: u64,
 }
 
 /// A read of a query that has committed, for the table of its reads.

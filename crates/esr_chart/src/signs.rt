@@ -62,6 +62,19 @@ fn push_cause(
     }
 }
 
+/// Appends what was blocked: a read, or the write of a value.
+fn push_attempt(out: &mut String, value: Option<i64>, x: u32, y: u32) -> Result<(), AllocError> {
+    open_centred(out, "lb bl ha", x, y)?;
+    match value {
+        Some(value) => {
+            out.push_str("tried to write ")?;
+            push_value(out, value)?;
+        }
+        None => out.push_str("tried to read")?,
+    }
+    close_text(out)
+}
+
 /// Appends what blocked an event, and how often if more than once.
 fn push_blocker(
     out: &mut String,
@@ -105,13 +118,15 @@ fn push_value_label(
         Action::Read { .. } => push_rows(out, column, y),
         Action::Write { value } => push_mark_value(out, value, column.x, y),
         Action::Blocked {
+            value,
             cause,
             times,
             excess,
-            ..
         } => {
-            push_blocker(out, lane, column, (cause, times), y)?;
-            push_excess(out, excess, column.x, y.saturating_add(TEXT_ROW))
+            let next = y.saturating_add(TEXT_ROW);
+            push_attempt(out, value, column.x, y)?;
+            push_blocker(out, lane, column, (cause, times), next)?;
+            push_excess(out, excess, column.x, next.saturating_add(TEXT_ROW))
         }
         Action::Begin | Action::Commit | Action::Abort => Ok(()),
     }
@@ -127,32 +142,12 @@ pub fn push_weight(out: &mut String, weight: u64) -> Result<(), AllocError> {
     out.push(')')
 }
 
-/// Appends a blank and the value of a write that was blocked.
-fn push_refused(out: &mut String, value: Option<i64>) -> Result<(), AllocError> {
-    match value {
-        Some(value) => {
-            out.push_str(" = ")?;
-            push_value(out, value)
-        }
-        None => Ok(()),
-    }
-}
-
-/// Appends the item of a mark, its weight if it was read, and what was tried if that was blocked.
+/// Appends the item of a mark, and its weight if it was read.
 fn push_item(out: &mut String, column: &Column<'_>, y: u32) -> Result<(), AllocError> {
-    let item = column.mark.item;
     open_centred(out, "lb ha", column.x, y)?;
-    match column.mark.action {
-        Action::Blocked { value, .. } => {
-            out.push_str(if value.is_some() { "write " } else { "read " })?;
-            out.push_str(item)?;
-            push_refused(out, value)?;
-        }
-        Action::Read { .. } => {
-            out.push_str(item)?;
-            push_weight(out, column.mark.weight)?;
-        }
-        _ => out.push_str(item)?,
+    out.push_str(column.mark.item)?;
+    if matches!(column.mark.action, Action::Read { .. }) {
+        push_weight(out, column.mark.weight)?;
     }
     close_text(out)
 }

@@ -25,10 +25,10 @@ const MAX_STACKED_READS: usize = 12;
 const MAX_LISTED: usize = 60;
 
 /// The distance of two reads in a row of the list.
-const LIST_GAP: u32 = 40;
+pub const LIST_GAP: u32 = 40;
 
 /// The maximum width of a narrow picture.
-const NARROW: u32 = 390;
+pub const NARROW: u32 = 390;
 
 /// The distance of two columns.
 const COLUMN_GAP: u32 = 14;
@@ -39,9 +39,9 @@ const SENTENCE_LETTER: u32 = 8;
 const SENTENCE: u32 = 18;
 
 /// The distance from row to row of reads, and between the tables.
-const ROW: u32 = TEXT_ROW + 1;
+pub const ROW: u32 = TEXT_ROW + 1;
 
-const SPACE: u32 = 4;
+pub const SPACE: u32 = 4;
 
 /// A column of the table.
 #[derive(Clone, Copy, PartialEq, Eq)]
@@ -93,36 +93,47 @@ static UPPER: [Field; 2] = [Field::Item, Field::Distance];
 static LOWER: [Field; 2] = [Field::Value, Field::State];
 
 /// The fields of a read in one row, or in two.
-#[derive(Clone, Copy, PartialEq, Eq)]
-enum Form {
-    Full,
-    Names,
-    Values,
-    Stacked,
+#[derive(Clone, Copy)]
+struct Form {
+    upper: &'static [Field],
+    lower: &'static [Field],
+    /// The maximum number of reads in a table.
+    most: usize,
 }
 
-static FORMS: [Form; 3] = [Form::Full, Form::Names, Form::Values];
-
-fn forms() -> &'static [Form] {
-    &FORMS
-}
-
-/// Returns the fields in the first row of a read.
-fn upper_of(form: Form) -> &'static [Field] {
-    match form {
-        Form::Full => &FULL,
-        Form::Names => &NAMES,
-        Form::Values => &VALUES,
-        Form::Stacked => &UPPER,
+/// Returns the form with all fields.
+fn full_form(most: usize) -> Form {
+    Form {
+        upper: &FULL,
+        lower: &[],
+        most,
     }
 }
 
-/// Returns the fields in the second row of a read.
-fn lower_of(form: Form) -> &'static [Field] {
-    match form {
-        Form::Stacked => &LOWER,
-        _ => &[],
+/// Returns the form with two rows for each read.
+fn stacked_form() -> Form {
+    Form {
+        upper: &UPPER,
+        lower: &LOWER,
+        most: MAX_STACKED_READS,
     }
+}
+
+/// Returns the forms with one row for each read, the one with most fields first.
+fn row_forms(most: usize) -> [Form; 3] {
+    [
+        full_form(most),
+        Form {
+            upper: &NAMES,
+            lower: &[],
+            most,
+        },
+        Form {
+            upper: &VALUES,
+            lower: &[],
+            most,
+        },
+    ]
 }
 
 /// Returns the heading of a column.
@@ -193,14 +204,14 @@ fn row_width(reads: &[ListedRead<'_>], fields: &[Field]) -> u32 {
     width.saturating_sub(COLUMN_GAP)
 }
 
-/// Returns the first form of these reads that fits into a width.
-fn form_of(reads: &[ListedRead<'_>], width: u32) -> Form {
-    for form in forms() {
-        if row_width(reads, upper_of(*form)) <= width {
+/// Returns the first form of these reads that fits into a width. `most` is the maximum number of reads with one row each.
+fn form_of(reads: &[ListedRead<'_>], most: usize, width: u32) -> Form {
+    for form in &row_forms(most) {
+        if row_width(first(reads, most), form.upper) <= width {
             return *form;
         }
     }
-    Form::Stacked
+    stacked_form()
 }
 
 /// Returns whether a field is a number.
@@ -305,19 +316,27 @@ fn distance_of(reads: &[ListedRead<'_>]) -> u64 {
     sum
 }
 
-/// Appends what the table has, and how many other reads there are.
+/// Appends what the table has, and how many reads there are in all.
 fn push_words(out: &mut String, scene: &Scene<'_>, form: Form) -> Result<(), AllocError> {
     let query = scene.nearest.map_or("", |nearest| nearest.query);
-    if !scene.off_reads.is_empty() {
-        write!(
-            out,
-            "The reads of {query} that are off, the farthest first."
+    let off = scene.off_reads.len() as u64;
+    let all = off.saturating_add(scene.exact_reads.len() as u64);
+    if off == 0 {
+        return Ok(());
+    }
+    push_number(out, off)?;
+    out.push_str(" of the ")?;
+    push_count(out, all, " read of ", " reads of ")?;
+    out.push_str(query)?;
+    out.push_str(if off == 1 {
+        " in all is off."
+    } else {
+        " in all are off, the farthest first."
+    })?;
+    if form.upper.contains(&Field::Side) {
+        out.push_str(
+            " Too late: the state is without the update that wrote the value. Too early: the state has a later value.",
         )?;
-        if form == Form::Full {
-            out.push_str(
-                " Too late: the state is without the update that wrote the value. Too early: the state has a later value.",
-            )?;
-        }
     }
     Ok(())
 }
@@ -365,7 +384,7 @@ fn has_table(scene: &Scene<'_>) -> bool {
 pub fn table_width(scene: &Scene<'_>) -> u32 {
     if has_table(scene) {
         let reads = first(&scene.off_reads, MAX_READS);
-        row_width(reads, upper_of(Form::Full)).saturating_add(2 * MARGIN)
+        row_width(reads, full_form(MAX_READS).upper).saturating_add(2 * MARGIN)
     } else {
         0
     }
@@ -381,7 +400,7 @@ fn count_in_row(reads: &[ListedRead<'_>], space: u32) -> usize {
 }
 
 /// Returns the lines of some words.
-fn lines_of(alloc: Global, words: &str, space: u32) -> Result<Vec<String>, AllocError> {
+pub fn lines_of(alloc: Global, words: &str, space: u32) -> Result<Vec<String>, AllocError> {
     let mut lines = Vec::new(alloc);
     if !words.is_empty() {
         wrap(alloc, &mut lines, (space / SENTENCE_LETTER) as usize, words)?;
@@ -390,17 +409,17 @@ fn lines_of(alloc: Global, words: &str, space: u32) -> Result<Vec<String>, Alloc
 }
 
 /// Returns the height of some sentences.
-fn sentences_height(lines: &[String]) -> u32 {
+pub fn sentences_height(lines: &[String]) -> u32 {
     (lines.len().min(100) as u32).saturating_mul(SENTENCE)
 }
 
 /// Returns the height of some rows.
-fn rows_height(rows: usize) -> u32 {
+pub fn rows_height(rows: usize) -> u32 {
     (rows.min(1000) as u32).saturating_mul(ROW)
 }
 
 /// Appends sentences. Returns the baseline of the next line.
-fn push_lines(out: &mut String, lines: &[String], y: u32) -> Result<u32, AllocError> {
+pub fn push_lines(out: &mut String, lines: &[String], y: u32) -> Result<u32, AllocError> {
     let mut y = y;
     for line in lines {
         push_text(out, "gy", MARGIN, y, line)?;
@@ -421,14 +440,10 @@ impl Table {
         } else {
             MAX_READS
         };
-        let reads = first(&scene.off_reads, upper_bound);
-        let reads = match form_of(reads, width.saturating_sub(2 * MARGIN)) {
-            Form::Stacked => first(reads, MAX_STACKED_READS),
-            _ => reads,
-        };
-        let others = first(&scene.exact_reads, if is_narrow { 0 } else { MAX_LISTED });
         let space = width.saturating_sub(2 * MARGIN);
-        let form = form_of(reads, space);
+        let form = form_of(&scene.off_reads, upper_bound, space);
+        let reads = first(&scene.off_reads, form.most);
+        let others = first(&scene.exact_reads, if is_narrow { 0 } else { MAX_LISTED });
         let in_row = count_in_row(others, space);
         let mut words = String::new(alloc);
         push_words(&mut words, scene, form)?;
@@ -452,7 +467,7 @@ impl Table {
             return 0;
         }
         let reads = self.count.saturating_add(1);
-        let rows = reads.saturating_mul(if self.form == Form::Stacked { 2 } else { 1 });
+        let rows = reads.saturating_mul(if self.form.lower.is_empty() { 1 } else { 2 });
         rows.saturating_add(if self.rest > 0 { 1 } else { 0 })
     }
 
@@ -481,10 +496,10 @@ impl Table {
         read: Option<&ListedRead<'_>>,
         y: u32,
     ) -> Result<u32, AllocError> {
-        push_row(out, reads, upper_of(self.form), read, (MARGIN, y))?;
+        push_row(out, reads, self.form.upper, read, (MARGIN, y))?;
         let mut next = y.saturating_add(ROW);
-        if self.form == Form::Stacked {
-            push_row(out, reads, lower_of(self.form), read, (MARGIN, next))?;
+        if !self.form.lower.is_empty() {
+            push_row(out, reads, self.form.lower, read, (MARGIN, next))?;
             next = next.saturating_add(ROW);
         }
         Ok(next)

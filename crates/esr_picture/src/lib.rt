@@ -12,6 +12,7 @@ mod arrow_reduction;
 mod drawing;
 mod lanes;
 mod observed_reads;
+mod reasons;
 mod required_lanes;
 mod scene;
 mod selection;

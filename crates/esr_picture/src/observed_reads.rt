@@ -2,12 +2,11 @@
 //! came later, or wrote over them. A lane may have the value of one all the same, of another update: its piece is green
 //! then, since audits compare values and nothing else, and the writer of the value is kept as well.
 
-use crate::versions::Positions;
 use esr_cert::Chain;
 use esr_items::ItemId;
 use esr_report::name_of_transaction;
 use esr_svg::{SameValue, TransientRead, TransientReads};
-use esr_trace::{Audited, ObservedRead, QueryTrace, WriterEnd};
+use esr_trace::{Audited, ObservedRead, Positions, QueryTrace, WriterEnd};
 use std::alloc::{AllocError, Global};
 
 /// Returns the values that were read of an item, without repetitions, with the number of reads of each.

@@ -6,10 +6,10 @@
 use crate::arrow_reduction::{Slots, arrows};
 use crate::lanes::{LaneVersions, reads_in, reads_of_values, versions_drawn};
 use crate::observed_reads::{read_counts_by_value, read_flags_by_version, transient_reads_of};
+use crate::reasons::add_reasons;
 use crate::selection::{Choice, FEW_RELEVANT, choose};
 use crate::titles::{arrow_title, update_title};
-use crate::versions::{Positions, unwritten, versions_of};
-use esr_audit::Finding;
+use crate::versions::{unwritten, versions_of};
 use esr_cert::{Chain, Problem};
 use esr_history::TxnId;
 use esr_items::Metric;
@@ -19,7 +19,7 @@ use esr_svg::{
 };
 use esr_text::first;
 use esr_trace::{
-    Alternative, Audited, NearestPlacement, QueryTrace, TxnClass, TxnCounts, push_undrawn,
+    Audited, NearestPlacement, Positions, QueryTrace, TxnClass, TxnCounts, push_undrawn,
     relevant_updates, sentences_of,
 };
 use std::alloc::{AllocError, Global};
@@ -38,9 +38,6 @@ const MAX_READS: usize = 2;
 const FIRST_CAUSES: usize = 3;
 
 const MAX_CHARGERS: usize = 3;
-
-/// The maximum number of causes of reads for which a sentence says why they are before or after the line.
-const MAX_REASONS: usize = 8;
 
 /// The maximum number of items without a lane that are named.
 const MAX_NAMES: usize = 3;
@@ -456,6 +453,7 @@ impl<'a, 'b> SceneParts<'a, 'b> {
             updates: Vec::new(alloc),
             lanes: Vec::new(alloc),
             reasons: Vec::new(alloc),
+            rows: Vec::new(alloc),
         }
     }
 
@@ -526,47 +524,6 @@ pub fn scene_of<'a>(
         extent = extent.reduced(fitting, tries);
         scene = scene_with(alloc, &source, extent)?;
     }
-    scene.reasons = reasons_of(alloc, audited, trace)?;
+    add_reasons(alloc, &mut scene, audited, trace)?;
     Ok(scene)
-}
-
-/// Adds why an update is before or after the line.
-fn push_reason(
-    alloc: Global,
-    reasons: &mut Vec<String>,
-    audited: &Audited<'_>,
-    update: TxnId,
-) -> Result<(), AllocError> {
-    let Finding {
-        problem,
-        certificate,
-        query,
-        ..
-    } = audited.finding;
-    if let Some(alternative) = Alternative::of(alloc, problem, &certificate.set, update)? {
-        let mut words = String::new(alloc);
-        let name = name_of_transaction(audited.transactions, *query);
-        alternative.push(&mut words, audited.items, audited.transactions, name)?;
-        if !words.is_empty() {
-            reasons.push(words)?;
-        }
-    }
-    Ok(())
-}
-
-/// Returns why the updates that explain the farthest reads are before or after the line.
-fn reasons_of(
-    alloc: Global,
-    audited: &Audited<'_>,
-    trace: &QueryTrace,
-) -> Result<Vec<String>, AllocError> {
-    let placement = NearestPlacement::after(alloc, audited.history, &audited.finding.before)?;
-    let causes = placement.causes(alloc, audited.history, trace)?;
-    let mut reasons = Vec::new(alloc);
-    for update in &relevant_updates(alloc, trace, &causes, &[], MAX_REASONS)? {
-        if causes.contains(update) {
-            push_reason(alloc, &mut reasons, audited, *update)?;
-        }
-    }
-    Ok(reasons)
 }

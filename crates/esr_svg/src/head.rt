@@ -13,15 +13,16 @@ use std::alloc::AllocError;
 /// The style sheet. Pictures and timelines share a page, so the names of their classes must differ. Short names keep large
 /// pictures small. A version is a stretch of a lane in which the item has one committed value.
 ///
-/// Texts: `m` monospaced, `h` heading, `n` bold, `q` muted, `g` as read, `r` off or an error, `o` with a halo. Boxes of
+/// Texts: `m` monospaced, `f` in a table, `h` heading, `n` bold, `q` muted, `g` as read, `r` off or an error, `o` with a halo. Boxes of
 /// updates: `b` before the query's line, `a` after it, `e` (with `b`) before it in every placement. Lanes: `v` a version,
 /// `u` a version that the query read, `y` a version read 2 to 9 times, `z` one read 10 times or more, `s` several versions or
-/// a transient read, `t` a write, `j` the bar of an item's share of the distance and `i` its filled part, `c` a read that is
+/// a transient read, `t` a write, `j` the bar of an item's share of the distance, and a rule of the table, and `i` its filled part, `c` a read that is
 /// off. Others: `l` the query's line, `d` a dotted line from a box to its lanes, `w` an arrow, `k` its head, `p` the
 /// background, `x` the box of errors.
 const STYLE: &str = "<style>\n\
 text{font:12px sans-serif;fill:#1f2328}\n\
 .m{font:13px Menlo,Consolas,'DejaVu Sans Mono',monospace}\n\
+.f{font:11px Menlo,Consolas,'DejaVu Sans Mono',monospace}\n\
 .h{font:bold 15px Menlo,Consolas,'DejaVu Sans Mono',monospace}\n\
 .n{font-weight:bold}\n\
 .q{fill:#59636e}\n\

@@ -6,6 +6,7 @@
 use crate::legend::count_rows;
 use crate::scene::{Arrow, Lane, MAX_LANES, Scene};
 use crate::slots::{Slots, lanes_left};
+use crate::table::Table;
 use crate::texts::Texts;
 use crate::widths::{
     box_width, difference_width, long_difference_width, transient_read_widths, width_of,
@@ -62,6 +63,9 @@ pub enum TransientReadLineCount {
 pub struct Layout {
     slots: Slots,
     pub texts: Texts,
+    /// The table of the reasons, and its height.
+    pub table: Table,
+    table_height: u32,
     pub width: u32,
     /// The width of the boxes of updates.
     pub box_width: u32,
@@ -233,7 +237,10 @@ impl Layout {
     pub fn of(alloc: Global, scene: &Scene<'_>) -> Result<Layout, AllocError> {
         let mut slots = Slots::of(alloc, scene)?;
         let widths = max_widths(&scene.lanes);
-        let width = needed_width(scene, &slots, widths);
+        let table = Table::of(alloc, &scene.rows)?;
+        let width = needed_width(scene, &slots, widths).max(
+            table.width().saturating_add(2 * MARGIN),
+        );
         let transient_left = transient_left(scene.query_slot, &slots, widths);
         slots.extend_to(width.saturating_sub(MARGIN));
         let texts = Texts::of(alloc, scene, width)?;
@@ -249,6 +256,8 @@ impl Layout {
             legend_rows: count_rows(scene, width),
             difference_width: widths.difference,
             long_difference_width: widths.long_difference,
+            table_height: table.height(&scene.rows),
+            table,
             slots,
             texts,
         })
@@ -345,11 +354,18 @@ impl Layout {
         count.saturating_mul(ERROR_LINE_HEIGHT).saturating_add(20)
     }
 
+    /// Returns the baseline of the first row of the table.
+    pub fn table_baseline(&self) -> u32 {
+        self.lanes_bottom()
+            .saturating_add(74)
+            .saturating_add(lines_height(&self.texts.omissions, SENTENCE_LINE_HEIGHT))
+    }
+
     /// Returns the baseline of the first row of the legend.
     pub fn legend_baseline(&self) -> u32 {
-        self.lanes_bottom()
-            .saturating_add(78)
-            .saturating_add(lines_height(&self.texts.omissions, SENTENCE_LINE_HEIGHT))
+        self.table_baseline()
+            .saturating_add(4)
+            .saturating_add(self.table_height)
     }
 
     /// Returns the height of the picture below the origin: all but the box of errors.

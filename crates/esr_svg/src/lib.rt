@@ -17,14 +17,15 @@ mod root;
 mod scene;
 mod slots;
 mod svg;
+mod table;
 mod texts;
 mod widths;
 
 pub use layout::updates_to_keep;
 pub use root::svg_element;
 pub use scene::{
-    Arrow, Deciding, Lane, LanePart, LaneReads, LaneSegment, MAX_LANES, MAX_UPDATES, ReadValue,
-    SameValue, Scene, TransientRead, TransientReads, Update,
+    Arrow, Deciding, Entry, Lane, LanePart, LaneReads, LaneSegment, MAX_LANES, MAX_UPDATES,
+    ReadValue, Row, SameValue, Scene, TransientRead, TransientReads, Update,
 };
 pub use svg::{Parts, parts_of};
 pub use texts::MAX_ERROR_LETTERS;

@@ -129,6 +129,19 @@ pub struct Deciding<'a> {
     pub count: usize,
 }
 
+/// Words in a cell of the table, and an amount if they have one.
+#[derive(Drop)]
+pub struct Entry {
+    pub words: String,
+    pub amount: Option<u64>,
+}
+
+/// A row of the table: the entries of each cell, one below another.
+#[derive(Drop)]
+pub struct Row {
+    pub cells: Vec<Vec<Entry>>,
+}
+
 /// The content of the picture of a query's audit.
 #[derive(Drop)]
 pub struct Scene<'a> {
@@ -159,8 +172,10 @@ pub struct Scene<'a> {
     pub ties: u64,
     /// The items without a lane that keep the line from a position at which the lanes would be less far off.
     pub deciding: Deciding<'a>,
-    /// Why the updates that explain the farthest reads are before or after the line.
+    /// Why the updates that explain the reads that are off are before or after the line.
     pub reasons: Vec<String>,
+    /// The table of these reasons, if there are many: the headings, and a row for each update.
+    pub rows: Vec<Row>,
 }
 
 impl Scene<'_> {

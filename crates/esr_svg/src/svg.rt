@@ -42,6 +42,9 @@ fn push_body(
     push_updates(out, scene, layout)?;
     push_audit(alloc, out, scene, layout)?;
     push_omissions(out, layout)?;
+    layout
+        .table
+        .push(out, &scene.rows, layout.table_baseline())?;
     push_keys(out, scene, layout)
 }
 

@@ -233,6 +233,49 @@ fn push_later(
     Ok(())
 }
 
+/// Adds the sentence on why the updates before the line are there, if any are drawn and the query need not follow them: of the
+/// placements with the least distance the line is at the one with the fewest updates, so each without one of them is farther.
+fn push_earlier(
+    alloc: Global,
+    sentences: &mut Vec<String>,
+    scene: &Scene<'_>,
+) -> Result<(), AllocError> {
+    let count = scene.updates.len().saturating_sub(count_later(scene));
+    let is_strict = scene.updates.iter().any(|update| update.must);
+    let (updates, them) = match count {
+        0 => return Ok(()),
+        _ if is_strict => return Ok(()),
+        1 => ("update", "it"),
+        _ => ("updates", "any of them"),
+    };
+    let query = scene.query_name;
+    let mut words = String::new(alloc);
+    write!(
+        words,
+        "The {updates} before the line must be there: without {them}, {query} would be off by more."
+    )?;
+    sentences.push(words)?;
+    Ok(())
+}
+
+/// Adds the sentence on the places of changes by updates that are not drawn, if there are any.
+fn push_changes(
+    alloc: Global,
+    sentences: &mut Vec<String>,
+    scene: &Scene<'_>,
+) -> Result<(), AllocError> {
+    for lane in &scene.lanes {
+        if lane.segments.iter().any(|segment| segment.parts.len() > 1) {
+            sentences.push(String::from_str(
+                alloc,
+                "A gap in a lane without a tick is a change by an update that is not drawn: its place between the boxes is arbitrary.",
+            )?)?;
+            return Ok(());
+        }
+    }
+    Ok(())
+}
+
 /// Adds the sentence on the places that are as near as the line, if there are any.
 fn push_ties(
     alloc: Global,
@@ -261,7 +304,9 @@ fn omissions_of(alloc: Global, scene: &Scene<'_>, width: u32) -> Result<Vec<Stri
     push_unwritten(alloc, &mut sentences, scene)?;
     push_rest(alloc, &mut sentences, scene)?;
     push_fitting(alloc, &mut sentences, scene)?;
+    push_changes(alloc, &mut sentences, scene)?;
     push_deciding(alloc, &mut sentences, &scene.deciding)?;
+    push_earlier(alloc, &mut sentences, scene)?;
     push_later(alloc, &mut sentences, scene)?;
     push_ties(alloc, &mut sentences, scene)?;
     let mut lines = lines_of(alloc, &sentences, MAX_SENTENCES, width)?;

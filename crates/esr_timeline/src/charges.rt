@@ -5,12 +5,11 @@ use crate::causes::{Causes, ranking};
 use crate::lanes::lane_at;
 use crate::marks::line_at;
 use crate::source::Source;
-use esr_chart::{Arrow, Lane, Relation};
+use esr_chart::{Arrow, ChargeSum, Lane, Relation};
 use esr_history::TxnId;
 use esr_items::Metric;
 use esr_report::name_of_transaction;
-use esr_text::{first, push_number};
-use esr_trace::{QueryTrace, Sum};
+use esr_trace::QueryTrace;
 use esr_trace_events::{Change, Charge, Charges};
 use std::alloc::{AllocError, Global};
 
@@ -279,63 +278,18 @@ pub fn greatest<'a>(
     Ok(greatest)
 }
 
-/// The sums of the charges to a query by update, the greatest first.
-#[derive(Drop)]
-pub struct ChargeSums {
-    sums: Vec<Sum>,
-    total: u64,
-}
-
-impl ChargeSums {
-    /// Returns the sums of a query without charges.
-    pub fn none(alloc: Global) -> ChargeSums {
-        ChargeSums {
-            sums: Vec::new(alloc),
-            total: 0,
-        }
+/// Returns the sums of the charges to the query of a trace by update, the greatest first.
+pub fn charge_sums<'a>(
+    alloc: Global,
+    source: Source<'a>,
+    trace: &QueryTrace,
+) -> Result<Vec<ChargeSum<'a>>, AllocError> {
+    let mut sums = Vec::new(alloc);
+    for sum in &trace.sums_by_update(alloc)? {
+        sums.push(ChargeSum {
+            update: name_of_transaction(source.transactions, TxnId(sum.number)),
+            amount: sum.amount,
+        })?;
     }
-
-    /// Returns the sums of the query of a trace.
-    pub fn of(alloc: Global, trace: &QueryTrace) -> Result<ChargeSums, AllocError> {
-        Ok(ChargeSums {
-            sums: trace.sums_by_update(alloc)?,
-            total: trace.charge_sum(),
-        })
-    }
-
-    /// Returns the updates with their sums as words, at most `upper_bound` of them, or nothing if there are none.
-    pub fn words(
-        &self,
-        alloc: Global,
-        source: Source<'_>,
-        upper_bound: usize,
-    ) -> Result<String, AllocError> {
-        let mut words = String::new(alloc);
-        let mut joint = "All charges by update: ";
-        let mut rest = self.total;
-        for sum in first(&self.sums, upper_bound) {
-            push_sum(&mut words, joint, source, *sum)?;
-            rest = rest.saturating_sub(sum.amount);
-            joint = ", ";
-        }
-        let others = self.sums.len().saturating_sub(upper_bound);
-        if others > 0 {
-            words.push_str(" and ")?;
-            push_number(&mut words, others as u64)?;
-            words.push_str(" more of ")?;
-            push_number(&mut words, rest)?;
-            words.push_str(" together")?;
-        }
-        if !words.is_empty() {
-            words.push('.')?;
-        }
-        Ok(words)
-    }
-}
-
-/// Appends an update with the sum of its charges.
-fn push_sum(out: &mut String, joint: &str, source: Source<'_>, sum: Sum) -> Result<(), AllocError> {
-    let update = name_of_transaction(source.transactions, TxnId(sum.number));
-    write!(out, "{joint}{update} ")?;
-    push_number(out, sum.amount)
+    Ok(sums)
 }

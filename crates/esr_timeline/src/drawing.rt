@@ -6,8 +6,8 @@
 use crate::fit::{Picture, Pictures};
 use crate::sentences::{Line, LineClass, push_all_lines};
 use esr_chart::{
-    MARGIN, Size, Sizes, Table, legend_height, open_narrow, prefix_of, push_attributes,
-    push_background, push_bands, push_head, push_legend, push_text, table_width,
+    ChargeTable, MARGIN, Size, Sizes, Table, legend_height, open_narrow, prefix_of,
+    push_attributes, push_background, push_bands, push_head, push_legend, push_text, table_width,
 };
 use std::alloc::{AllocError, Global};
 
@@ -75,10 +75,10 @@ fn push_layout(
     let top = count.saturating_mul(SENTENCE).saturating_add(30);
     let bottom = picture.layout.stack(top).saturating_add(14);
     let table = Table::of(alloc, &picture.scene, width)?;
-    let legend = bottom.saturating_add(match &table {
-        Some(table) => table.height(),
-        None => 0,
-    });
+    let charges = bottom.saturating_add(table.as_ref().map_or(0, |table| table.height()));
+    let charge_table = ChargeTable::of(alloc, &picture.scene, width)?;
+    let sums = charge_table.as_ref().map_or(0, |table| table.height());
+    let legend = charges.saturating_add(sums);
     let height = legend.saturating_add(legend_height(&picture.scene, &picture.layout, width));
     let size = Size { width, height };
     push_background(out, size)?;
@@ -86,6 +86,9 @@ fn push_layout(
     push_bands(out, &picture.scene, &picture.layout)?;
     if let Some(table) = &table {
         table.push(out, &picture.scene, bottom)?;
+    }
+    if let Some(table) = &charge_table {
+        table.push(out, &picture.scene, charges)?;
     }
     push_keys(alloc, out, picture, width, legend)?;
     Ok(size)

@@ -5,7 +5,7 @@ use crate::source::{PlacedQuery, Source};
 use esr_chart::{Arrow, Farthest, Reason};
 use esr_history::{Event, TxnId};
 use esr_report::name_of_transaction;
-use esr_trace::{Alternative, ObservedRead, QueryTrace};
+use esr_trace::{Audited, ObservedRead, QueryTrace, Reasons};
 use std::alloc::{AllocError, Global};
 
 /// Returns the charge that explains a read best: of its group the first in the ranking, and after the read if that came too
@@ -98,15 +98,15 @@ pub fn reason_of_farthest(
     trace: &QueryTrace,
 ) -> Result<String, AllocError> {
     let mut words = String::new(alloc);
-    let finding = placed.finding;
-    let causes = placed.placement.causes(alloc, source.history, trace)?;
-    let Some(update) = causes.first() else {
-        return Ok(words);
+    let audited = Audited {
+        items: source.items,
+        transactions: source.transactions,
+        history: source.history,
+        finding: placed.finding,
     };
-    let set = &finding.certificate.set;
-    if let Some(alternative) = Alternative::of(alloc, &finding.problem, set, *update)? {
-        let name = name_of_transaction(source.transactions, finding.query);
-        alternative.push(&mut words, source.items, source.transactions, name)?;
+    let reasons = Reasons::of(alloc, &audited, &placed.placement, trace, 1)?;
+    if let Some(reason) = reasons.reasons.first() {
+        reason.push(&mut words, &audited)?;
     }
     Ok(words)
 }

@@ -5,7 +5,7 @@
 
 use crate::causes::Causes;
 use crate::charges::{
-    ChargeSums, between, charges_in, charges_to_all, drawable, greatest, sum_of, with_drawn,
+    between, charge_sums, charges_in, charges_to_all, drawable, greatest, sum_of, with_drawn,
     with_exports,
 };
 use crate::farthest::{farthest_read, reason_of_farthest};
@@ -20,8 +20,8 @@ use crate::marks::{
 use crate::notes::complete_notes;
 use crate::source::Source;
 use esr_chart::{
-    Arrow, Drawn, Farthest, Format, Heads, Lane, Layout, ListedRead, Mark, Nearest, Order, Rest,
-    Scene, Spacing, layout_of,
+    Arrow, ChargeSum, Drawn, Farthest, Format, Heads, Lane, Layout, ListedRead, Mark, Nearest,
+    Order, Rest, Scene, Spacing, layout_of,
 };
 use esr_history::TxnId;
 use esr_report::name_of_transaction;
@@ -52,14 +52,6 @@ const WHOLE_NARROW_FORMAT: Format = Format {
     height: u32::MAX,
     heads: Heads::Above,
 };
-
-/// Returns the maximum number of updates that are listed with the sums of their charges.
-fn max_sums(heads: Heads) -> usize {
-    match heads {
-        Heads::InFront => 100,
-        Heads::Above => 12,
-    }
-}
 
 /// No layout has space for more events.
 const MAX_COLUMNS: usize = 300;
@@ -315,7 +307,7 @@ struct Material<'a> {
     off_reads: Vec<ListedRead<'a>>,
     exact_reads: Vec<ListedRead<'a>>,
     /// The sums of the charges to that query by update.
-    charge_sums: ChargeSums,
+    charge_sums: Vec<ChargeSum<'a>>,
 }
 
 /// What is drawn at a stage.
@@ -548,7 +540,6 @@ impl<'a> Material<'a> {
         alloc: Global,
         choice: Choice<'a>,
         all_charges: Vec<Arrow<'a>>,
-        heads: Heads,
     ) -> Result<Scene<'a>, AllocError> {
         let rest = self.rest(&choice);
         let mistakes = mistakes_on(self.source, &choice.lanes);
@@ -566,7 +557,7 @@ impl<'a> Material<'a> {
             reason: String::from_str(alloc, self.reason.as_str())?,
             off_reads: self.off_reads.to_vec(alloc)?,
             exact_reads: self.exact_reads.to_vec(alloc)?,
-            charged_by: self.charge_sums.words(alloc, self.source, max_sums(heads))?,
+            charge_sums: self.charge_sums.to_vec(alloc)?,
         })
     }
 
@@ -583,15 +574,10 @@ impl<'a> Material<'a> {
     }
 
     /// Returns the timeline of an attempt.
-    fn picture(
-        &self,
-        alloc: Global,
-        attempt: Attempt<'a>,
-        heads: Heads,
-    ) -> Result<Picture<'a>, AllocError> {
+    fn picture(&self, alloc: Global, attempt: Attempt<'a>) -> Result<Picture<'a>, AllocError> {
         let Attempt { choice, layout } = attempt;
         let all_charges = between(alloc, &self.charges, &self.lanes, &choice.lanes)?;
-        let scene = self.scene(alloc, choice, all_charges, heads)?;
+        let scene = self.scene(alloc, choice, all_charges)?;
         Ok(Picture { scene, layout })
     }
 
@@ -643,7 +629,7 @@ impl<'a> Material<'a> {
         format: Format,
     ) -> Result<Picture<'a>, AllocError> {
         let attempt = self.best_attempt(alloc, stages, format)?;
-        self.picture(alloc, attempt, format.heads)
+        self.picture(alloc, attempt)
     }
 
     /// Returns both layouts.
@@ -716,7 +702,7 @@ fn material_on<'a>(
         reason: String::new(alloc),
         off_reads: Vec::new(alloc),
         exact_reads: Vec::new(alloc),
-        charge_sums: ChargeSums::none(alloc),
+        charge_sums: Vec::new(alloc),
     })
 }
 
@@ -776,7 +762,7 @@ fn material_about<'a>(
     }
     material.causes = of_reads;
     material.chargers = chargers(alloc, trace, MAX_CHARGERS)?;
-    material.charge_sums = ChargeSums::of(alloc, trace)?;
+    material.charge_sums = charge_sums(alloc, source, trace)?;
     add_nearest(alloc, &mut material, trace, farthest)?;
     Ok(material)
 }

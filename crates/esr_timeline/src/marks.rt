@@ -429,18 +429,25 @@ fn is_late(mark: &Mark<'_>) -> bool {
     }
 }
 
-/// Returns a read as a row of the table.
-fn listed_read<'a>(mark: &Mark<'a>, value: i64, state: i64) -> ListedRead<'a> {
-    ListedRead {
+/// Returns a mark as a row of the table of the reads on a lane, if it is a read there, and whether it is off.
+fn listed_read<'a>(mark: &Mark<'a>, lane: usize) -> Option<(ListedRead<'a>, bool)> {
+    let Action::Read { value, nearest } = mark.action else {
+        return None;
+    };
+    if mark.lane != lane {
+        return None;
+    }
+    let read = ListedRead {
         step: (mark.place as u64).saturating_add(1),
         item: mark.item,
         value,
         writer: mark.writer.unwrap_or(Writer::Opening),
-        state,
+        state: nearest.unwrap_or(value),
         state_writer: mark.state_writer.unwrap_or(Writer::Opening),
         is_late: is_late(mark),
         distance: mark.distance(),
-    }
+    };
+    Some((read, nearest.is_some()))
 }
 
 /// Returns all reads on a lane that are off, those with the greatest distances first.
@@ -452,13 +459,9 @@ pub fn off_reads_on<'a>(
     let mut reads = Vec::new(alloc);
     for index in &farthest_reads(alloc, marks, usize::MAX)? {
         if let Some(mark) = marks.get(*index)
-            && mark.lane == lane
-            && let Action::Read {
-                value,
-                nearest: Some(state),
-            } = mark.action
+            && let Some((read, true)) = listed_read(mark, lane)
         {
-            reads.push(listed_read(mark, value, state))?;
+            reads.push(read)?;
         }
     }
     Ok(reads)
@@ -472,13 +475,8 @@ pub fn exact_reads_on<'a>(
 ) -> Result<Vec<ListedRead<'a>>, AllocError> {
     let mut reads = Vec::new(alloc);
     for mark in marks {
-        if mark.lane == lane
-            && let Action::Read {
-                value,
-                nearest: None,
-            } = mark.action
-        {
-            reads.push(listed_read(mark, value, value))?;
+        if let Some((read, false)) = listed_read(mark, lane) {
+            reads.push(read)?;
         }
     }
     Ok(reads)

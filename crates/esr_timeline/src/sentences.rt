@@ -465,9 +465,6 @@ fn push_sentences(
     words.clear();
     push_omissions(&mut words, scene, bands)?;
     push_lines(alloc, lines, LineClass::Sentence, &words, letters)?;
-    if scene.rest.charges > 0 {
-        push_lines(alloc, lines, LineClass::Sentence, &scene.charged_by, names)?;
-    }
     words.clear();
     push_charges(&mut words, &scene.arrows)?;
     push_lines(alloc, lines, LineClass::Sentence, &words, letters)?;

@@ -1,41 +1,89 @@
-//! Explains why an update is before the nearest placement of a query, or why it is not: what the distance would be otherwise.
+//! Explains why updates are before the nearest placement of a query, or why they are not: what the distance would be otherwise.
 //!
 //! An update cannot change sides alone. The updates that precede it have to be before the placement too, and those that follow
 //! it leave with it. So the explanation names these, and adds up by how much the reads would be nearer and farther: the second sum
-//! is never less than the first, since no placement is nearer. Rejected: the charge of one update, since it does not add up to
-//! that difference.
+//! is never less than the first, since no placement is nearer. The sides of up to 64 updates are changed at once, each in a
+//! separate bit, so the pairs of a problem are passed over once for all of them. Rejected: the charge of one update, since it does
+//! not add up to that difference.
 
-use crate::trace::Sum;
+use crate::trace::{Sum, total_of};
 use esr_cert::{Chain, Problem};
 use esr_history::TxnId;
 use esr_report::{Names, name_of_transaction};
 use esr_text::{first, push_count, push_number};
 use std::alloc::{AllocError, Global};
 
+/// The maximum number of updates whose other sides are compared.
+pub const MAX_ALTERNATIVES: usize = 64;
+
 /// The maximum number of updates that are named, and of items.
 const MAX_NAMED: usize = 3;
 
-/// A nearest placement with one update on its other side.
+/// The update, or the updates, whose other side is compared.
+#[derive(Clone, Copy)]
+pub enum Subject {
+    Update(TxnId),
+    /// All updates before the nearest placement, with their number.
+    Before(u64),
+    /// All other updates that committed before the query, with their number.
+    After(u64),
+}
+
+/// An item of the explained reads that would not be nearer, although it would have another value.
+#[derive(Clone, Copy)]
+pub struct Replaced {
+    pub item: u32,
+    /// The update that would have written its value, unless that is the opening value.
+    pub writer: Option<TxnId>,
+    /// Whether the reads would be farther, and not as far.
+    pub is_farther: bool,
+}
+
+/// A nearest placement with one update, or several, on the other side.
 #[derive(Drop)]
 pub struct Alternative {
-    update: TxnId,
+    pub subject: Subject,
     /// Whether the update is put before the placement. Otherwise it is taken away.
-    is_added: bool,
+    pub is_added: bool,
     /// The other updates that change sides with it, in commit order.
-    others: Vec<TxnId>,
+    pub others: Vec<TxnId>,
     /// The one of the updates taken away that has to be before a strict query.
-    required: Option<TxnId>,
-    /// The items whose reads would be nearer, and by how much, the greatest amounts first.
-    nearer: Vec<Sum>,
+    pub required: Option<TxnId>,
+    /// The items whose reads would be nearer, and by how much: those that are to be explained first, then the greatest amounts.
+    pub nearer: Vec<Sum>,
     /// Those whose reads would be farther.
-    farther: Vec<Sum>,
+    pub farther: Vec<Sum>,
+    /// The items to be explained whose reads would not be nearer.
+    pub replaced: Vec<Replaced>,
+}
+
+/// A nearest placement with some updates, and the sides that all updates have if each of those is on its other side.
+#[derive(Drop)]
+pub struct Alternatives<'a> {
+    problem: &'a Problem,
+    /// For each update by its position: whether it is before the placement.
+    inside: Vec<bool>,
+    /// The position of each of the updates to be explained, if it committed before the query did.
+    positions: Vec<Option<u32>>,
+    /// For each update by its position: the explained updates with which it changes sides, a bit for each.
+    moved: Vec<u64>,
+    /// The positions of the updates that change sides with some explained update, ascending.
+    movers: Vec<u32>,
+}
+
+/// Returns the bit of an explained update.
+fn bit_of(number: usize) -> u64 {
+    1u64.checked_shl(number.min(MAX_ALTERNATIVES) as u32)
+        .unwrap_or(0)
 }
 
 /// Returns flags for the updates of a set, by their positions.
 fn flags_of(alloc: Global, count: usize, set: &[u32]) -> Result<Vec<bool>, AllocError> {
     let mut flags = vec![in alloc; false; count]?;
     for position in set {
-        set_flag(&mut flags, *position);
+        if let Some(flag) = flags.get_mut(*position as usize) {
+            *flag = true;
+        }
     }
     Ok(flags)
 }
@@ -45,45 +93,99 @@ fn has_flag(flags: &[bool], position: u32) -> bool {
     flags.get(position as usize) == Some(&true)
 }
 
-/// Marks a position.
-fn set_flag(flags: &mut [bool], position: u32) {
-    if let Some(flag) = flags.get_mut(position as usize) {
-        *flag = true;
+/// Returns the bits of an update.
+fn bits_at(moved: &[u64], position: u32) -> u64 {
+    moved.get(position as usize).copied().unwrap_or(0)
+}
+
+/// Adds bits to those of an update.
+fn add_bits(moved: &mut [u64], position: u32, bits: u64) {
+    if let Some(all) = moved.get_mut(position as usize) {
+        *all = *all | bits;
     }
 }
 
-/// Marks the predecessors of the marked updates. The pairs ascend, so a pass from the last one to the first finds all.
-fn mark_predecessors(flags: &mut [bool], pairs: &[(u32, u32)]) {
+/// Adds the bits of the updates that would be put before the placement to those that precede them and are not there. The pairs
+/// ascend, so a pass from the last one to the first finds all.
+fn move_predecessors(moved: &mut [u64], inside: &[bool], pairs: &[(u32, u32)]) {
     for place in 0..pairs.len() {
         let index = pairs.len().saturating_sub(place).saturating_sub(1);
-        if let Some((before, after)) = pairs.get(index)
-            && has_flag(flags, *after)
-        {
-            set_flag(flags, *before);
+        if let Some((before, after)) = pairs.get(index) {
+            let bits = bits_at(moved, *after);
+            if bits != 0 && !has_flag(inside, *before) {
+                add_bits(moved, *before, bits);
+            }
         }
     }
 }
 
-/// Marks the successors of the marked updates.
-fn mark_successors(flags: &mut [bool], pairs: &[(u32, u32)]) {
+/// Adds the bits of the updates that would be taken away to those that follow them.
+fn move_successors(moved: &mut [u64], inside: &[bool], pairs: &[(u32, u32)]) {
     for (before, after) in pairs {
-        if has_flag(flags, *before) {
-            set_flag(flags, *after);
+        let bits = bits_at(moved, *before);
+        if bits != 0 && has_flag(inside, *after) {
+            add_bits(moved, *after, bits);
         }
     }
 }
 
-/// Returns the cost of a chain after the updates of a closed set, on which the sides of the marked updates are changed.
-fn cost_of(chain: &Chain, inside: &[bool], moved: &[bool]) -> u64 {
-    let version = chain.writers.partition_point(|writer| has_flag(inside, *writer)
-        != has_flag(moved, *writer));
+/// Returns the positions of the updates that have a bit.
+fn movers_of(alloc: Global, moved: &[u64]) -> Result<Vec<u32>, AllocError> {
+    let mut movers = Vec::new(alloc);
+    for (position, bits) in (0u32..65_536).zip(moved.iter()) {
+        if *bits != 0 {
+            movers.push(position)?;
+        }
+    }
+    Ok(movers)
+}
+
+/// Returns the cost of a version of a chain.
+fn cost_at(chain: &Chain, version: usize) -> u64 {
     chain.costs.get(version).copied().unwrap_or(0)
 }
 
-/// Returns the sums of some ranks.
-fn sums_of(alloc: Global, ranks: &[(u64, u32)]) -> Result<Vec<Sum>, AllocError> {
+/// Returns whether an update has a bit.
+fn has_bit(moved: &[u64], position: u32, bit: u64) -> bool {
+    bits_at(moved, position) & bit != 0
+}
+
+/// Returns the version of a chain after the updates of a closed set, on which the updates with a bit change sides.
+fn version_at(chain: &Chain, inside: &[bool], moved: &[u64], bit: u64) -> usize {
+    chain.writers.partition_point(|writer| has_flag(inside, *writer)
+        != has_bit(moved, *writer, bit))
+}
+
+/// The changes of the costs of the chains, with their ranks.
+#[derive(Drop)]
+struct Changes {
+    nearer: Vec<(u8, u64, u32)>,
+    farther: Vec<(u8, u64, u32)>,
+    replaced: Vec<Replaced>,
+}
+
+impl Changes {
+    /// Notes the costs of an item at the placement and at the other one. The rank of the items to be explained is 0.
+    fn note(&mut self, item: u32, rank: u8, here: u64, there: u64) -> Result<(), AllocError> {
+        if there < here {
+            let amount = here.saturating_sub(there);
+            self.nearer
+                .push((rank, u64::MAX.saturating_sub(amount), item))?;
+        }
+        if there > here {
+            let amount = there.saturating_sub(here);
+            self.farther
+                .push((rank, u64::MAX.saturating_sub(amount), item))?;
+        }
+        Ok(())
+    }
+}
+
+/// Returns the sums of some ranks, in their order.
+fn sums_of(alloc: Global, mut ranks: Vec<(u8, u64, u32)>) -> Result<Vec<Sum>, AllocError> {
+    ranks.sort_unstable();
     let mut sums = Vec::new(alloc);
-    for (rank, number) in ranks {
+    for (_, rank, number) in &ranks {
         sums.push(Sum {
             number: *number,
             amount: u64::MAX.saturating_sub(*rank),
@@ -92,118 +194,208 @@ fn sums_of(alloc: Global, ranks: &[(u64, u32)]) -> Result<Vec<Sum>, AllocError> 
     Ok(sums)
 }
 
-/// Returns the items whose reads would be nearer, or farther, the greatest amounts first.
-fn differences_of(
-    alloc: Global,
-    problem: &Problem,
-    inside: &[bool],
-    moved: &[bool],
-    are_nearer: bool,
-) -> Result<Vec<Sum>, AllocError> {
-    let stays = vec![in alloc; false; inside.len()]?;
-    let mut ranks = Vec::new(alloc);
-    for chain in problem.chains() {
-        let there = cost_of(chain, inside, &stays);
-        let elsewhere = cost_of(chain, inside, moved);
-        let amount = if are_nearer {
-            there.saturating_sub(elsewhere)
-        } else {
-            elsewhere.saturating_sub(there)
+impl<'a> Alternatives<'a> {
+    /// Returns the placement of a set, with the sides for the updates at these positions, of which the first
+    /// [`MAX_ALTERNATIVES`] are explained.
+    pub fn of(
+        alloc: Global,
+        problem: &'a Problem,
+        set: &[u32],
+        positions: Vec<Option<u32>>,
+    ) -> Result<Alternatives<'a>, AllocError> {
+        let count = problem.updates().len();
+        let inside = flags_of(alloc, count, set)?;
+        let mut moved = vec![in alloc; 0u64; count]?;
+        for (number, position) in positions.iter().enumerate() {
+            if let Some(position) = position {
+                add_bits(&mut moved, *position, bit_of(number));
+            }
+        }
+        move_predecessors(&mut moved, &inside, problem.before());
+        move_successors(&mut moved, &inside, problem.before());
+        let movers = movers_of(alloc, &moved)?;
+        Ok(Alternatives {
+            problem,
+            inside,
+            positions,
+            moved,
+            movers,
+        })
+    }
+
+    /// Returns the version of a chain at the placement, on which the updates with a bit change sides.
+    fn version(&self, chain: &Chain, bit: u64) -> usize {
+        version_at(chain, &self.inside, &self.moved, bit)
+    }
+
+    /// Returns the update at a position.
+    fn update(&self, position: u32) -> Option<TxnId> {
+        self.problem.updates().get(position as usize).copied()
+    }
+
+    /// Returns the update that wrote a version of a chain, unless it is the opening value.
+    fn writer(&self, chain: &Chain, version: usize) -> Option<TxnId> {
+        let position = chain.writers.get(version.checked_sub(1)?)?;
+        self.update(*position)
+    }
+
+    /// Returns the updates that change sides with the one at a position.
+    fn others(&self, alloc: Global, bit: u64, own: u32) -> Result<Vec<TxnId>, AllocError> {
+        let mut others = Vec::new(alloc);
+        for position in &self.movers {
+            if *position != own
+                && has_bit(&self.moved, *position, bit)
+                && let Some(update) = self.update(*position)
+            {
+                others.push(update)?;
+            }
+        }
+        Ok(others)
+    }
+
+    /// Returns the first of the updates with a bit that a strict query has to follow.
+    fn required(&self, bit: u64) -> Option<TxnId> {
+        for position in self.problem.must() {
+            if has_bit(&self.moved, *position, bit) {
+                return self.update(*position);
+            }
+        }
+        None
+    }
+
+    /// Notes how the cost of a chain changes if it has this version.
+    fn note(
+        &self,
+        changes: &mut Changes,
+        chain: &Chain,
+        version: usize,
+        items: &[u32],
+    ) -> Result<(), AllocError> {
+        let here = cost_at(chain, self.version(chain, 0));
+        let there = cost_at(chain, version);
+        let is_explained = items.contains(&chain.item.0);
+        let rank = if is_explained { 0 } else { 1 };
+        changes.note(chain.item.0, rank, here, there)?;
+        if is_explained && there >= here {
+            changes.replaced.push(Replaced {
+                item: chain.item.0,
+                writer: self.writer(chain, version),
+                is_farther: there > here,
+            })?;
+        }
+        Ok(())
+    }
+
+    /// Returns the placement with an explained update on its other side, if it committed before the query did. The reads of these
+    /// items are to be explained.
+    pub fn with_moved(
+        &self,
+        alloc: Global,
+        number: usize,
+        items: &[u32],
+    ) -> Result<Option<Alternative>, AllocError> {
+        let Some(position) = self.positions.get(number).copied().flatten() else {
+            return Ok(None);
         };
-        if amount > 0 {
-            ranks.push((u64::MAX.saturating_sub(amount), chain.item.0))?;
+        let Some(update) = self.update(position) else {
+            return Ok(None);
+        };
+        let bit = bit_of(number);
+        let mut changes = no_changes(alloc);
+        for chain in self.problem.chains() {
+            self.note(&mut changes, chain, self.version(chain, bit), items)?;
         }
+        let is_added = !has_flag(&self.inside, position);
+        let subject = Subject::Update(update);
+        let mut alternative = alternative_of(alloc, subject, is_added, changes)?;
+        alternative.others = self.others(alloc, bit, position)?;
+        alternative.required = if is_added { None } else { self.required(bit) };
+        Ok(Some(alternative))
     }
-    ranks.sort_unstable();
-    sums_of(alloc, &ranks)
+
+    /// Returns the number of the updates before the placement.
+    fn count_before(&self) -> usize {
+        self.inside.iter().filter(|flag| **flag).count()
+    }
+
+    /// Returns the opening values in place of the placement, if several updates are before it and none has to be.
+    pub fn without_all(&self, alloc: Global) -> Result<Option<Alternative>, AllocError> {
+        let count = self.count_before();
+        if count < 2 || !self.problem.must().is_empty() {
+            return Ok(None);
+        }
+        let mut changes = no_changes(alloc);
+        for chain in self.problem.chains() {
+            self.note(&mut changes, chain, 0, &[])?;
+        }
+        let subject = Subject::Before(count as u64);
+        Ok(Some(alternative_of(alloc, subject, false, changes)?))
+    }
+
+    /// Returns the last values in place of the placement, if several updates are not before it.
+    pub fn with_all(&self, alloc: Global) -> Result<Option<Alternative>, AllocError> {
+        let count = self.inside.len().saturating_sub(self.count_before());
+        if count < 2 {
+            return Ok(None);
+        }
+        let mut changes = no_changes(alloc);
+        for chain in self.problem.chains() {
+            self.note(&mut changes, chain, chain.writers.len(), &[])?;
+        }
+        let subject = Subject::After(count as u64);
+        Ok(Some(alternative_of(alloc, subject, true, changes)?))
+    }
 }
 
-/// Returns the updates that change sides with this one.
-fn others_of(
+/// Returns the alternative of a subject with these changes.
+fn alternative_of(
     alloc: Global,
-    problem: &Problem,
-    inside: &[bool],
-    moved: &[bool],
-    update: u32,
-) -> Result<Vec<TxnId>, AllocError> {
-    let is_inside = has_flag(inside, update);
-    let mut others = Vec::new(alloc);
-    for (position, txn) in (0u32..).zip(problem.updates().iter()) {
-        if position != update
-            && has_flag(moved, position)
-            && has_flag(inside, position) == is_inside
-        {
-            others.push(*txn)?;
-        }
-    }
-    Ok(others)
+    subject: Subject,
+    is_added: bool,
+    changes: Changes,
+) -> Result<Alternative, AllocError> {
+    let Changes {
+        nearer,
+        farther,
+        replaced,
+    } = changes;
+    Ok(Alternative {
+        subject,
+        is_added,
+        others: Vec::new(alloc),
+        required: None,
+        nearer: sums_of(alloc, nearer)?,
+        farther: sums_of(alloc, farther)?,
+        replaced,
+    })
 }
 
-/// Marks the updates that change sides with the one that is marked.
-fn mark_moved(problem: &Problem, inside: &[bool], moved: &mut [bool], is_added: bool) {
-    if is_added {
-        mark_predecessors(moved, problem.before());
-    } else {
-        mark_successors(moved, problem.before());
+/// Returns no changes.
+fn no_changes(alloc: Global) -> Changes {
+    Changes {
+        nearer: Vec::new(alloc),
+        farther: Vec::new(alloc),
+        replaced: Vec::new(alloc),
     }
-    for index in 0..moved.len() {
-        if let Some(flag) = moved.get_mut(index)
-            && inside.get(index) == Some(&is_added)
-        {
-            *flag = false;
-        }
-    }
-}
-
-/// Returns the first of the marked updates that a strict query has to follow.
-fn required_of(problem: &Problem, moved: &[bool]) -> Option<TxnId> {
-    for position in problem.must() {
-        if has_flag(moved, *position) {
-            return problem.updates().get(*position as usize).copied();
-        }
-    }
-    None
-}
-
-/// Returns the position of an update among those that committed before the query.
-fn position_of(problem: &Problem, update: TxnId) -> Option<u32> {
-    for (position, txn) in (0u32..).zip(problem.updates().iter()) {
-        if *txn == update {
-            return Some(position);
-        }
-    }
-    None
 }
 
 impl Alternative {
-    /// Returns the placement with an update on the other side, if the update committed before the query did.
-    pub fn of(
-        alloc: Global,
-        problem: &Problem,
-        set: &[u32],
-        update: TxnId,
-    ) -> Result<Option<Alternative>, AllocError> {
-        let Some(position) = position_of(problem, update) else {
-            return Ok(None);
-        };
-        let count = problem.updates().len();
-        let inside = flags_of(alloc, count, set)?;
-        let is_added = !has_flag(&inside, position);
-        let mut moved = flags_of(alloc, count, &[position])?;
-        mark_moved(problem, &inside, &mut moved, is_added);
-        Ok(Some(Alternative {
-            update,
-            is_added,
-            others: others_of(alloc, problem, &inside, &moved, position)?,
-            required: required_of(problem, &moved),
-            nearer: differences_of(alloc, problem, &inside, &moved, true)?,
-            farther: differences_of(alloc, problem, &inside, &moved, false)?,
-        }))
-    }
-
     /// Returns whether no read would be nearer or farther.
     fn changes_nothing(&self) -> bool {
-        self.required.is_none() && self.nearer.is_empty() && self.farther.is_empty()
+        self.required.is_none()
+            && self.nearer.is_empty()
+            && self.farther.is_empty()
+            && self.replaced.is_empty()
+    }
+
+    /// Returns the sum of the amounts by which reads would be nearer.
+    pub fn nearer_total(&self) -> u64 {
+        total_of(&self.nearer)
+    }
+
+    /// Returns the sum of the amounts by which reads would be farther.
+    pub fn farther_total(&self) -> u64 {
+        total_of(&self.farther)
     }
 
     /// Appends the names of the other updates, and the number of those that are not named.
@@ -222,17 +414,40 @@ impl Alternative {
         Ok(())
     }
 
+    /// Appends which updates are explained.
+    fn push_subject(&self, out: &mut String, transactions: &Names) -> Result<(), AllocError> {
+        let (count, words) = match self.subject {
+            Subject::Update(update) => {
+                let update = name_of_transaction(transactions, update);
+                let is = if self.is_added { "is not" } else { "is" };
+                return write!(out, "Why {update} {is} in the nearest state: ");
+            }
+            Subject::Before(count) => (
+                count,
+                " updates before the line are in the nearest state: without all of them, ",
+            ),
+            Subject::After(count) => (
+                count,
+                " updates after the line are not in the nearest state: with all of them, ",
+            ),
+        };
+        out.push_str("Why the ")?;
+        push_number(out, count)?;
+        out.push_str(words)
+    }
+
     /// Appends which updates change sides.
     fn push_moved(&self, out: &mut String, transactions: &Names) -> Result<(), AllocError> {
-        match (self.is_added, self.others.is_empty()) {
-            (true, true) => out.push_str("if it were, "),
-            (false, true) => out.push_str("without it, "),
-            (true, false) => {
+        match (self.subject, self.is_added, self.others.is_empty()) {
+            (Subject::Before(_) | Subject::After(_), _, _) => Ok(()),
+            (_, true, true) => out.push_str("if it were, "),
+            (_, false, true) => out.push_str("without it, "),
+            (_, true, false) => {
                 out.push_str("it would bring ")?;
                 self.push_others(out, transactions)?;
                 out.push_str(", which must come with it. Then ")
             }
-            (false, false) => {
+            (_, false, false) => {
                 out.push_str("without it, ")?;
                 self.push_others(out, transactions)?;
                 out.push_str(" would be missing too, which must come after it. Then ")
@@ -248,7 +463,9 @@ impl Alternative {
         query: &str,
         required: TxnId,
     ) -> Result<(), AllocError> {
-        if required == self.update {
+        if let Subject::Update(update) = self.subject
+            && required == update
+        {
             return write!(
                 out,
                 "it committed before {query} began, and {query} is strict."
@@ -261,8 +478,33 @@ impl Alternative {
         )
     }
 
-    /// Appends by how much reads would be nearer and farther.
-    fn push_sums(&self, out: &mut String, items: &Names) -> Result<(), AllocError> {
+    /// Appends the explained items that would not be nearer, with the writers of the values that they would have.
+    fn push_replaced(
+        &self,
+        out: &mut String,
+        items: &Names,
+        transactions: &Names,
+    ) -> Result<(), AllocError> {
+        for replaced in first(&self.replaced, MAX_NAMED) {
+            out.push_str(items.name_of(replaced.item).unwrap_or(""))?;
+            match replaced.writer {
+                Some(writer) => {
+                    out.push_str(" would be of ")?;
+                    out.push_str(name_of_transaction(transactions, writer))?;
+                }
+                None => out.push_str(" would have its opening value")?,
+            }
+            out.push_str(if replaced.is_farther {
+                "; "
+            } else {
+                ", as far off; "
+            })?;
+        }
+        Ok(())
+    }
+
+    /// Appends by how much reads would be nearer and farther, and the distance then.
+    fn push_sums(&self, out: &mut String, items: &Names, distance: u64) -> Result<(), AllocError> {
         if self.nearer.is_empty() {
             out.push_str("no read would be nearer")?;
         } else {
@@ -272,43 +514,35 @@ impl Alternative {
             out.push_str("; but ")?;
             push_differences(out, items, &self.farther, " farther by ")?;
         }
+        let more = self.farther_total().saturating_sub(self.nearer_total());
+        if more == 0 {
+            return out.push_str(": as far off.");
+        }
+        out.push_str(": off by ")?;
+        push_number(out, distance.saturating_add(more))?;
         out.push('.')
     }
 
-    /// Appends a sentence on why the update is before the nearest placement of a query of this name, or why it is not, unless
-    /// the reads would be the same.
+    /// Appends a sentence on why the update is before the nearest placement of a query of this name and distance, or why it is
+    /// not, unless the reads would be the same.
     pub fn push(
         &self,
         out: &mut String,
         items: &Names,
         transactions: &Names,
-        query: &str,
+        (query, distance): (&str, u64),
     ) -> Result<(), AllocError> {
         if self.changes_nothing() {
             return Ok(());
         }
-        let update = name_of_transaction(transactions, self.update);
-        let is = if self.is_added { "is not" } else { "is" };
-        write!(out, "Why {update} {is} in the nearest state: ")?;
-        match self.required {
-            Some(required) if !self.is_added => {
-                self.push_required(out, transactions, query, required)
-            }
-            _ => {
-                self.push_moved(out, transactions)?;
-                self.push_sums(out, items)
-            }
+        self.push_subject(out, transactions)?;
+        if let Some(required) = self.required {
+            return self.push_required(out, transactions, query, required);
         }
+        self.push_moved(out, transactions)?;
+        self.push_replaced(out, items, transactions)?;
+        self.push_sums(out, items, distance)
     }
-}
-
-/// Returns the sum of some amounts.
-fn total_of(sums: &[Sum]) -> u64 {
-    let mut total = 0u64;
-    for sum in sums {
-        total = total.saturating_add(sum.amount);
-    }
-    total
 }
 
 /// Appends the first items with their amounts, the number and the sum of the others, and the sum of all if there are several.

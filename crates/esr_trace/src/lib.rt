@@ -8,6 +8,8 @@
 mod alternative;
 mod counts;
 mod part;
+mod positions;
+mod reasons;
 mod relevance;
 mod sentences;
 mod subject;
@@ -16,9 +18,11 @@ mod text;
 mod trace;
 mod traces;
 
-pub use alternative::Alternative;
+pub use alternative::{Alternative, MAX_ALTERNATIVES, Replaced, Subject};
 pub use counts::{TxnClass, TxnCounts, class_of, push_undrawn};
 pub use part::Part;
+pub use positions::Positions;
+pub use reasons::{Reason, Reasons};
 pub use relevance::{NearestPlacement, relevant_updates};
 pub use sentences::{
     OffReads, off_reads, opening_distance, push_charge_rule, push_nearest_moment, push_opening,

@@ -24,6 +24,16 @@ pub struct NearestPlacement {
     values: Vec<i64>,
 }
 
+/// The reads of one value of an item that are off, with their cause.
+#[derive(Clone, Copy)]
+pub struct ExplainedRead {
+    pub cause: TxnId,
+    pub item: u32,
+    pub count: u64,
+    /// The distance of all of them.
+    pub distance: u64,
+}
+
 /// Returns flags for the updates before a placement.
 fn flags_of(alloc: Global, before: &[TxnId], count: usize) -> Result<Vec<bool>, AllocError> {
     let mut flags = vec![in alloc; false; count]?;
@@ -123,6 +133,38 @@ impl NearestPlacement {
         observed.value.abs_diff(value).saturating_mul(weight)
     }
 
+    /// Returns the reads that are off with their causes, the farthest first.
+    pub fn explained(
+        &self,
+        alloc: Global,
+        history: &History<Weighted>,
+        trace: &QueryTrace,
+    ) -> Result<Vec<ExplainedRead>, AllocError> {
+        let mut ranks = Vec::new(alloc);
+        for (index, observed) in trace.observed_reads.iter().enumerate() {
+            let distance = self.distance(history, observed);
+            if distance > 0 {
+                ranks.push((u64::MAX.saturating_sub(distance), observed.place, index))?;
+            }
+        }
+        ranks.sort_unstable();
+        let mut explained = Vec::new(alloc);
+        for (rank, _, index) in &ranks {
+            if let Some(observed) = trace.observed_reads.get(*index)
+                && let Some(cause) = self.cause(observed)
+            {
+                let distance = u64::MAX.saturating_sub(*rank);
+                explained.push(ExplainedRead {
+                    cause,
+                    item: observed.item.0,
+                    count: observed.count,
+                    distance: distance.saturating_mul(observed.count),
+                })?;
+            }
+        }
+        Ok(explained)
+    }
+
     /// Returns the cause of each read that is off, those of the farthest reads first.
     pub fn causes(
         &self,
@@ -130,17 +172,8 @@ impl NearestPlacement {
         history: &History<Weighted>,
         trace: &QueryTrace,
     ) -> Result<Vec<TxnId>, AllocError> {
-        let mut ranks = Vec::new(alloc);
-        for observed in &trace.observed_reads {
-            let distance = self.distance(history, observed);
-            if distance > 0
-                && let Some(cause) = self.cause(observed)
-            {
-                ranks.push((u64::MAX.saturating_sub(distance), observed.place, cause.0))?;
-            }
-        }
-        ranks.sort_unstable();
-        ranks.iter().map(|rank| TxnId(rank.2)).collect(alloc)
+        let explained = self.explained(alloc, history, trace)?;
+        explained.iter().map(|read| read.cause).collect(alloc)
     }
 }
 

@@ -5,7 +5,7 @@
 use crate::relevance::NearestPlacement;
 use crate::subject::Audited;
 use crate::text::{MAX_NAMES, push_names, push_rest};
-use crate::trace::{QueryTrace, Sum, WriterEnd};
+use crate::trace::{QueryTrace, Sum, WriterEnd, total_of};
 use esr_history::{Entry, Event, History, MAX_LIMIT, Refusal, Reply, TxnId};
 use esr_items::{ItemId, Metric, Weighted};
 use esr_outcomes::{TxnOutcome, outcome_of};
@@ -308,15 +308,6 @@ fn absent(
         }
     }
     Ok(absent)
-}
-
-/// Returns the sum of some charges.
-fn total_of(charges: &[Sum]) -> u64 {
-    let mut total = 0u64;
-    for charge in charges {
-        total = total.saturating_add(charge.amount);
-    }
-    total
 }
 
 /// Appends the names of the updates of the first of some charges, and the number of the others.

@@ -92,6 +92,15 @@ pub struct Sum {
     pub amount: u64,
 }
 
+/// Returns the total of some sums.
+pub(crate) fn total_of(sums: &[Sum]) -> u64 {
+    let mut total = 0u64;
+    for sum in sums {
+        total = total.saturating_add(sum.amount);
+    }
+    total
+}
+
 /// Returns the outcome of a transaction.
 fn end_in(ends: &[WriterEnd], txn: TxnId) -> WriterEnd {
     ends.get(txn.0 as usize)

@@ -55,7 +55,7 @@ static BANK_DRAWN: [&str; 29] = [
     "<text class='q' x='20' y='550'>be off by as much; the first is drawn.</text>\n",
     "<text class='q' x='20' y='570'>Why transfer is not in the nearest state:</text>\n",
     "<text class='q' x='20' y='590'>if it were, savings would be nearer by 100;</text>\n",
-    "<text class='q' x='20' y='610'>but checking farther by 100.</text>\n",
+    "<text class='q' x='20' y='610'>but checking farther by 100: as far off.</text>\n",
 ];
 
 /// An update, and a report that reads nothing.

@@ -250,7 +250,7 @@ fn blocked_events_are_drawn(rt: HostRuntime) {
     let texts = [
         "<title>step 5, line 6: v was blocked from reading a by the lock of u, 2 times</title><path class='mx' ",
         ">lock of u, 2 times</text>\n",
-        ">read a</text>\n",
+        ">tried to read</text>\n",
         "<title>step 7, line 8: q was blocked from reading a by the limit of q: the sum would have been 2 of 1</title>",
         ">sum 2, limit 1</text>\n",
         ">aborted</text>\n",
