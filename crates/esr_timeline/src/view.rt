@@ -136,6 +136,23 @@ impl ScriptView for Timeline<'_> {
     }
 }
 
+/// Returns what the timeline of an audited query is drawn from.
+fn source_about<'a>(
+    audited: &'a Audited<'a>,
+    auditor: &'a Auditor<'a>,
+    lines: &'a [u32],
+    placed: &'a PlacedQuery<'a>,
+) -> Source<'a> {
+    Source {
+        items: audited.items,
+        transactions: audited.transactions,
+        history: audited.history,
+        auditor,
+        lines,
+        placed: Some(placed),
+    }
+}
+
 /// A timeline of an audited query, as a part of a page.
 pub struct TimelinePart;
 
@@ -150,14 +167,7 @@ impl Part for TimelinePart {
         traced: Traced<'_>,
     ) -> Result<(), AllocError> {
         let placed = PlacedQuery::of(alloc, audited.history, audited.finding)?;
-        let source = Source {
-            items: audited.items,
-            transactions: audited.transactions,
-            history: audited.history,
-            auditor,
-            lines,
-            placed: Some(&placed),
-        };
+        let source = source_about(audited, auditor, lines, &placed);
         let query = audited.finding.query;
         let pictures = timeline_of_query(alloc, source, query, traced)?;
         out.push_str(&svg_of(alloc, pictures, 0)?)
