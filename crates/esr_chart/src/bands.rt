@@ -16,7 +16,7 @@ use crate::titles::{kind_of, push_change, push_charge_title, push_new};
 use esr_history::MAX_LIMIT;
 use esr_outcomes::TxnOutcome;
 use esr_text::{push_number, push_value};
-use esr_trace::outcome_words;
+use esr_wording::outcome_words;
 use std::alloc::AllocError;
 
 /// Appends the limit of a transaction.

@@ -4,7 +4,7 @@ use crate::layout::{Column, GAP, MARGIN, width_of};
 use crate::reads::read_letters;
 use crate::scene::{Action, Arrow, Excess, Lane, Mark, weight_letters};
 use esr_text::{letters_of, number_letters};
-use esr_trace::outcome_words;
+use esr_wording::outcome_words;
 use std::alloc::{AllocError, Global};
 
 /// The maximum number of rows of the axis.

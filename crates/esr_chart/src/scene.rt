@@ -3,7 +3,7 @@
 use esr_history::TxnId;
 use esr_outcomes::{TxnKind, TxnOutcome};
 use esr_text::number_letters;
-use esr_trace::{OffReads, TxnCounts};
+use esr_wording::{OffReads, TxnCounts};
 
 /// The maximum number of letters of two amounts in a head.
 const MAX_NOTE: usize = 26;

@@ -4,7 +4,7 @@ use crate::reads::push_writer;
 use crate::scene::{Action, Arrow, Cause, Excess, Lane, Mark, Note, NotedWrite, Writer};
 use esr_outcomes::TxnKind;
 use esr_text::{push_number, push_value};
-use esr_trace::outcome_words;
+use esr_wording::outcome_words;
 use std::alloc::AllocError;
 
 /// Appends the step of an entry, as `explain` counts it, and its line.

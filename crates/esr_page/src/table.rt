@@ -5,7 +5,7 @@
 use crate::rows::{QueryRow, Target};
 use esr_history::MAX_LIMIT;
 use esr_text::{first, push_number};
-use esr_trace::outcome_words;
+use esr_wording::outcome_words;
 use std::alloc::AllocError;
 
 /// The maximum number of rows.

@@ -9,9 +9,9 @@ use esr_items::Weighted;
 use esr_outcomes::outcome_of;
 use esr_report::name_of_transaction;
 use esr_text::{first, push_count, push_number};
-use esr_trace::outcome_words;
 use esr_trace_events::{Charge, Charges};
 use esr_views::Recording;
+use esr_wording::outcome_words;
 use std::alloc::{AllocError, Global};
 
 const HEADINGS: &str =

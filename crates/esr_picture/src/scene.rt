@@ -18,10 +18,8 @@ use esr_svg::{
     Arrow, Deciding, Lane, LaneReads, LaneSegment, MAX_UPDATES, Scene, Update, updates_to_keep,
 };
 use esr_text::first;
-use esr_trace::{
-    Audited, NearestPlacement, Positions, QueryTrace, TxnClass, TxnCounts, push_undrawn,
-    relevant_updates, sentences_of,
-};
+use esr_trace::{Audited, NearestPlacement, Positions, QueryTrace, relevant_updates, sentences_of};
+use esr_wording::{TxnClass, TxnCounts, push_undrawn};
 use std::alloc::{AllocError, Global};
 
 /// The number of times that a scene that is too wide is rebuilt with fewer updates, but at least [`FEW_RELEVANT`].

@@ -6,7 +6,8 @@ use crate::subject::Subject;
 use esr_history::{MAX_LIMIT, TxnId};
 use esr_items::ItemId;
 use esr_text::{first, push_count, push_number, push_value};
-use esr_trace::{Cause, ChargeGroup, MAX_NAMES, QueryTrace, Sum, push_rest};
+use esr_trace::{Cause, ChargeGroup, QueryTrace, Sum};
+use esr_wording::{MAX_NAMES, push_rest};
 use std::alloc::{AllocError, Global};
 
 /// Appends the values before and after an update's change.

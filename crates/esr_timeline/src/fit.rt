@@ -26,7 +26,8 @@ use esr_chart::{
 use esr_history::TxnId;
 use esr_report::name_of_transaction;
 use esr_text::first;
-use esr_trace::{Exceeded, QueryTrace, Traced, TxnCounts, traces_of};
+use esr_trace::{Exceeded, QueryTrace, Traced, traces_of};
+use esr_wording::TxnCounts;
 use std::alloc::{AllocError, Global};
 
 /// The wide layout of a timeline: no band is wider, unless one event is.

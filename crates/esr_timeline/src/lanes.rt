@@ -7,10 +7,8 @@ use esr_history::{Entry, Refusal, Reply, TxnId};
 use esr_outcomes::{Auditor, kind_of, outcome_of};
 use esr_report::name_of_transaction;
 use esr_text::first;
-use esr_trace::{
-    NearestPlacement, QueryTrace, TxnCounts, class_of, off_reads, opening_distance,
-    relevant_updates,
-};
+use esr_trace::{NearestPlacement, QueryTrace, off_reads, opening_distance, relevant_updates};
+use esr_wording::{TxnCounts, class_of};
 use std::alloc::{AllocError, Global};
 
 /// The maximum number of lanes.

@@ -8,7 +8,8 @@ use esr_chart::{
 };
 use esr_outcomes::TxnKind;
 use esr_text::{first, push_count, push_number, wrap};
-use esr_trace::{push_charge_rule, push_opening, push_summands, push_undrawn};
+use esr_trace::{push_charge_rule, push_opening};
+use esr_wording::{push_summands, push_undrawn};
 use std::alloc::{AllocError, Global};
 
 /// The width of a letter of a sentence, and of the heading.

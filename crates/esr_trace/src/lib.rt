@@ -6,7 +6,6 @@
 #![tactic(auto)]
 
 mod alternative;
-mod counts;
 mod part;
 mod positions;
 mod reasons;
@@ -14,22 +13,19 @@ mod relevance;
 mod sentences;
 mod subject;
 mod sum_errors;
-mod text;
 mod trace;
 mod traces;
 
 pub use alternative::{Alternative, MAX_ALTERNATIVES, Replaced, Subject};
-pub use counts::{TxnClass, TxnCounts, class_of, push_undrawn};
 pub use part::Part;
 pub use positions::Positions;
 pub use reasons::{Reason, Reasons};
 pub use relevance::{NearestPlacement, relevant_updates};
 pub use sentences::{
-    OffReads, off_reads, opening_distance, push_charge_rule, push_nearest_moment, push_opening,
-    push_strict, push_summands, push_verdict, sentences_of,
+    off_reads, opening_distance, push_charge_rule, push_nearest_moment, push_opening, push_strict,
+    push_verdict, sentences_of,
 };
 pub use subject::Audited;
 pub use sum_errors::sum_error;
-pub use text::{MAX_NAMES, outcome_words, push_names, push_rest};
 pub use trace::{Cause, ChargeGroup, ObservedRead, QueryTrace, Sum, WriterEnd};
 pub use traces::{Exceeded, Traced, Traces, trace_of, traces_of};

@@ -4,13 +4,13 @@
 
 use crate::relevance::NearestPlacement;
 use crate::subject::Audited;
-use crate::text::{MAX_NAMES, push_names, push_rest};
 use crate::trace::{QueryTrace, Sum, WriterEnd, total_of};
 use esr_history::{Entry, Event, History, MAX_LIMIT, Refusal, Reply, TxnId};
 use esr_items::{ItemId, Metric, Weighted};
 use esr_outcomes::{TxnOutcome, outcome_of};
 use esr_report::name_of_transaction;
-use esr_text::{first, push_count, push_number};
+use esr_text::{first, push_number};
+use esr_wording::{MAX_NAMES, OffReads, push_names, push_rest, push_summands};
 use std::alloc::{AllocError, Global};
 
 /// The maximum number of names of updates that were charged and have no box.
@@ -70,14 +70,6 @@ pub fn push_verdict(
     out.push('.')
 }
 
-/// The reads of a query that differ from the nearest state.
-#[derive(Clone, Copy)]
-pub struct OffReads {
-    pub count: u64,
-    /// Whether the weight of an item of them is above 1.
-    pub has_weights: bool,
-}
-
 /// Returns the reads that differ from a placement.
 pub fn off_reads(
     history: &History<Weighted>,
@@ -96,23 +88,6 @@ pub fn off_reads(
         }
     }
     reads
-}
-
-/// Appends what a distance is the sum of: the absolute differences of these reads, each times its weight.
-pub fn push_summands(out: &mut String, reads: OffReads) -> Result<(), AllocError> {
-    if reads.count == 1 {
-        return out.push_str(if reads.has_weights {
-            " in one read, its weight included"
-        } else {
-            " in one read"
-        });
-    }
-    out.push_str(if reads.has_weights {
-        ": the sum of |value read - value there| x weight over "
-    } else {
-        ": the sum of |value read - value there| over "
-    })?;
-    push_count(out, reads.count, " read", " reads")
 }
 
 /// Appends the nearest moment, if no moment has all values that were read, and what the distance is the sum of.
