@@ -10,12 +10,12 @@ use crate::layout::{
     column_at, fits_one_row, limit_width, name_width, rows_above,
 };
 use crate::limits::push_limit;
-use crate::scene::{Arrow, Lane, Scene};
 use crate::signs::{push_marks_in, push_weight};
 use crate::titles::{kind_of, push_change, push_charge_title, push_new};
 use esr_history::MAX_LIMIT;
 use esr_outcomes::TxnOutcome;
 use esr_text::{push_number, push_value};
+use esr_timeline_data::{Arrow, Lane, Scene};
 use esr_wording::outcome_words;
 use std::alloc::AllocError;
 

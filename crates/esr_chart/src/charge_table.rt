@@ -3,11 +3,11 @@
 
 use crate::elements::{close_text, open_end, open_text, push_text};
 use crate::layout::{MARGIN, width_of};
-use crate::scene::{ChargeSum, Scene};
 use crate::table::{
     LIST_GAP, NARROW, ROW, SPACE, lines_of, push_lines, rows_height, sentences_height,
 };
 use esr_text::{first, number_letters, push_number};
+use esr_timeline_data::{ChargeSum, Scene};
 use std::alloc::{AllocError, Global};
 
 /// The maximum number of updates in the table, and in that of a narrow picture.

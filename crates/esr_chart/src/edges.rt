@@ -2,8 +2,8 @@
 
 use crate::layout::{Column, GAP, MARGIN, width_of};
 use crate::reads::read_letters;
-use crate::scene::{Action, Arrow, Excess, Lane, Mark, weight_letters};
 use esr_text::{letters_of, number_letters};
+use esr_timeline_data::{Action, Arrow, Excess, Lane, Mark, weight_letters};
 use esr_wording::outcome_words;
 use std::alloc::{AllocError, Global};
 

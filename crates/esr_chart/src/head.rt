@@ -6,8 +6,8 @@
 //! it shows this one if it is wider than high, also if it is narrow.
 
 use crate::elements::push_rect;
-use crate::scene::{Lane, Scene};
 use crate::titles::push_outcome_words;
+use esr_timeline_data::{Lane, Scene};
 use std::alloc::AllocError;
 
 /// The style sheet. A page contains timelines and pictures, so their classes have different names.

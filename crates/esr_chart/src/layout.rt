@@ -9,10 +9,10 @@
 use crate::edges::{Edges, outcome_width, step_rows};
 use crate::limits::has_bar;
 use crate::reads::count_more_rows;
-use crate::scene::{Action, Arrow, Lane, Mark};
 use crate::titles::kind_of;
 use esr_history::MAX_LIMIT;
 use esr_text::number_letters;
+use esr_timeline_data::{Action, Arrow, Lane, Mark};
 use std::alloc::{AllocError, Global};
 
 /// The width of a letter of a label.

@@ -4,8 +4,8 @@ use crate::bands::{band_class, is_early_read};
 use crate::elements::{push_circle, push_continued, push_cross, push_rect, push_square, push_text};
 use crate::layout::{Band, Layout, MARGIN, charges_between};
 use crate::limits::has_bar;
-use crate::scene::{Action, Lane, Scene};
 use esr_outcomes::TxnOutcome;
+use esr_timeline_data::{Action, Lane, Scene};
 use std::alloc::AllocError;
 
 /// A symbol that the legend of a timeline explains.

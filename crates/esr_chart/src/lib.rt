@@ -1,10 +1,9 @@
-//! Draws a timeline, given its content as plain data: lanes, marks on them in the order of the log, and charges between
-//! lanes.
+//! Draws a timeline, given its content as plain data (`esr_timeline_data`): lanes, marks on them in the order of the log,
+//! and charges between lanes.
 //!
 //! The width of each text is computed in advance, and `layout` places the columns so that no two texts overlap, in several
-//! bands one below another if they do not fit in one. `esr_timeline` chooses the content and reads the history; this crate
-//! does not, so both are proved in parallel with other libraries. Rejected: a narrow layout alone, which is too tall for a
-//! screen.
+//! bands one below another if they do not fit in one. This crate does not read the history, so it is proved in parallel
+//! with the crates that do. Rejected: a narrow layout alone, which is too tall for a screen.
 #![tactic(auto)]
 
 mod bands;
@@ -16,7 +15,6 @@ mod layout;
 mod legend;
 mod limits;
 mod reads;
-mod scene;
 mod signs;
 mod table;
 mod titles;
@@ -30,8 +28,4 @@ pub use head::{
 };
 pub use layout::{Band, Drawn, Format, Heads, Layout, MARGIN, Spacing, layout_of};
 pub use legend::{legend_height, push_legend};
-pub use scene::{
-    Action, Arrow, Cause, ChargeSum, Excess, Farthest, Lane, ListedRead, Mark, Mistakes, Nearest,
-    Note, NotedWrite, Order, Reason, Relation, Rest, Scene, Writer,
-};
 pub use table::{Table, table_width};

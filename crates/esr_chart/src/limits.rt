@@ -2,8 +2,8 @@
 
 use crate::elements::push_rect;
 use crate::layout::{Band, charges_at_or_before, charges_between};
-use crate::scene::{Arrow, Lane, Scene};
 use esr_history::MAX_LIMIT;
+use esr_timeline_data::{Arrow, Lane, Scene};
 use std::alloc::AllocError;
 
 /// The height of a bar.

@@ -3,8 +3,8 @@
 //! them.
 
 use crate::layout::Column;
-use crate::scene::{Action, Mark, Note, NotedWrite, Writer};
 use esr_text::{letters_of, number_letters, push_number, push_value};
+use esr_timeline_data::{Action, Mark, Note, NotedWrite, Writer};
 use std::alloc::AllocError;
 
 /// A row below a read.

@@ -3,9 +3,9 @@
 use crate::elements::{close_text, open_centred, push_circle, push_cross, push_square};
 use crate::layout::{Band, Column, TEXT_ROW};
 use crate::reads::{all_rows, class_of_row, has_row, push_row};
-use crate::scene::{Action, Cause, Excess, Lane, Scene};
 use crate::titles::push_mark_title;
 use esr_text::{push_number, push_value};
+use esr_timeline_data::{Action, Cause, Excess, Lane, Scene};
 use std::alloc::AllocError;
 
 /// Appends the sign of a mark.

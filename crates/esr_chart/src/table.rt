@@ -7,8 +7,8 @@
 
 use crate::elements::{close_text, open_end, open_text, push_text};
 use crate::layout::{MARGIN, TEXT_ROW, width_of};
-use crate::scene::{ListedRead, Scene, Writer};
 use esr_text::{first, letters_of, number_letters, push_count, push_number, push_value, wrap};
+use esr_timeline_data::{ListedRead, Scene, Writer};
 use std::alloc::{AllocError, Global};
 
 /// The maximum number of reads that have no table.

@@ -1,9 +1,9 @@
 //! The titles of marks and charges, which are shown when a pointer is over them.
 
 use crate::reads::push_writer;
-use crate::scene::{Action, Arrow, Cause, Excess, Lane, Mark, Note, NotedWrite, Writer};
 use esr_outcomes::TxnKind;
 use esr_text::{push_number, push_value};
+use esr_timeline_data::{Action, Arrow, Cause, Excess, Lane, Mark, Note, NotedWrite, Writer};
 use esr_wording::outcome_words;
 use std::alloc::AllocError;
 

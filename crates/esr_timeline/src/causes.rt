@@ -8,9 +8,9 @@
 
 use crate::predecessors::ChargedPredecessors;
 use crate::source::{PlacedQuery, Source};
-use esr_chart::{Arrow, Relation};
 use esr_history::{Event, TxnId};
 use esr_items::ItemId;
+use esr_timeline_data::{Arrow, Relation};
 use esr_trace::{NearestPlacement, ObservedRead, QueryTrace};
 use std::alloc::{AllocError, Global};
 

@@ -2,9 +2,9 @@
 
 use crate::causes::{Causes, ranking};
 use crate::source::{PlacedQuery, Source};
-use esr_chart::{Arrow, Farthest, Reason};
 use esr_history::{Event, TxnId};
 use esr_report::name_of_transaction;
+use esr_timeline_data::{Arrow, Farthest, Reason};
 use esr_trace::{Audited, ObservedRead, QueryTrace, Reasons};
 use std::alloc::{AllocError, Global};
 

@@ -19,13 +19,13 @@ use crate::marks::{
 };
 use crate::notes::complete_notes;
 use crate::source::Source;
-use esr_chart::{
-    Arrow, ChargeSum, Drawn, Farthest, Format, Heads, Lane, Layout, ListedRead, Mark, Nearest,
-    Order, Rest, Scene, Spacing, layout_of,
-};
+use esr_chart::{Drawn, Format, Heads, Layout, Spacing, layout_of};
 use esr_history::TxnId;
 use esr_report::name_of_transaction;
 use esr_text::first;
+use esr_timeline_data::{
+    Arrow, ChargeSum, Farthest, Lane, ListedRead, Mark, Nearest, Order, Rest, Scene,
+};
 use esr_trace::{Exceeded, QueryTrace, Traced, traces_of};
 use esr_wording::TxnCounts;
 use std::alloc::{AllocError, Global};

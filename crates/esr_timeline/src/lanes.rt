@@ -2,11 +2,11 @@
 
 use crate::causes::ranking;
 use crate::source::{PlacedQuery, Source};
-use esr_chart::{Arrow, Lane, Nearest};
 use esr_history::{Entry, Refusal, Reply, TxnId};
 use esr_outcomes::{Auditor, kind_of, outcome_of};
 use esr_report::name_of_transaction;
 use esr_text::first;
+use esr_timeline_data::{Arrow, Lane, Nearest};
 use esr_trace::{NearestPlacement, QueryTrace, off_reads, opening_distance, relevant_updates};
 use esr_wording::{TxnCounts, class_of};
 use std::alloc::{AllocError, Global};

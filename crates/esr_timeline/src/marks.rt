@@ -3,10 +3,12 @@
 use crate::lanes::{blocker_of, lane_at, placements_of};
 use crate::notes::{note_of, writer_in, writer_read};
 use crate::source::Source;
-use esr_chart::{Action, Arrow, Cause, Excess, Lane, ListedRead, Mark, Mistakes, Note, Writer};
 use esr_history::{Entry, Event, Refusal, Reply, TxnId};
 use esr_items::{ItemId, Metric};
 use esr_report::name_of_transaction;
+use esr_timeline_data::{
+    Action, Arrow, Cause, Excess, Lane, ListedRead, Mark, Mistakes, Note, Writer,
+};
 use esr_trace::{Exceeded, NearestPlacement};
 use std::alloc::{AllocError, Global};
 

@@ -6,11 +6,11 @@
 
 use crate::causes::Causes;
 use crate::source::Source;
-use esr_chart::{Mark, Note, NotedWrite, Writer};
 use esr_history::{Event, TxnId};
 use esr_items::ItemId;
 use esr_outcomes::{TxnOutcome, outcome_of};
 use esr_report::name_of_transaction;
+use esr_timeline_data::{Mark, Note, NotedWrite, Writer};
 use esr_trace::NearestPlacement;
 
 /// An accepted write.

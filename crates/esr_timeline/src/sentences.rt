@@ -2,12 +2,10 @@
 //! which states a strict query excludes, the farthest read, the steps that were refused, what is not drawn, and the weights.
 
 use crate::fit::Picture;
-use esr_chart::{
-    Arrow, Band, Farthest, Lane, MARGIN, Mistakes, Nearest, Order, Reason, Rest, Scene,
-    push_heading_words,
-};
+use esr_chart::{Band, MARGIN, push_heading_words};
 use esr_outcomes::TxnKind;
 use esr_text::{first, push_count, push_number, wrap};
+use esr_timeline_data::{Arrow, Farthest, Lane, Mistakes, Nearest, Order, Reason, Rest, Scene};
 use esr_trace::{push_charge_rule, push_opening};
 use esr_wording::{push_summands, push_undrawn};
 use std::alloc::{AllocError, Global};
