@@ -1,28 +1,19 @@
 //! Fits a timeline into the maximum width, or into a few bands of it. It is built with all events, and as long as it
 //! does not fit, with fewer: first without the labels of events on which no charge depends, then without these events,
-//! then with the first charges of a ranking only (`causes`) and as many of the reads that are off. The updates that were
+//! then with the first charges of a ranking only (`greatest`) and as many of the reads that are off. The updates that were
 //! charged most keep their lanes and the greatest charge of each. One band is tried first, unless labels would be omitted.
 
-use crate::causes::Causes;
-use crate::charges::{
-    between, charge_sums, charges_in, charges_to_all, drawable, greatest, sum_of, with_drawn,
-    with_exports,
-};
-use crate::farthest::{farthest_read, reason_of_farthest};
-use crate::lanes::{
-    MAX_CHARGERS, MAX_LANES, chargers, concerned, counts_of, first_begun, lane_at, lanes_of,
-    nearest_to, note_sides,
-};
-use crate::marks::{
-    count_off_reads, exact_reads_on, keys_of, mark_keys, mark_query_reads, marks_of, marks_on,
-    mistakes_on, note_excesses, off_reads_on,
-};
-use crate::notes::complete_notes;
-use crate::source::Source;
 use esr_chart::{Drawn, Format, Heads, Layout, Spacing, layout_of};
 use esr_history::TxnId;
 use esr_report::name_of_transaction;
 use esr_text::first;
+use esr_timeline_content::{
+    Causes, MAX_CHARGERS, MAX_LANES, Source, between, charge_sums, chargers, charges_in,
+    charges_to_all, complete_notes, concerned, count_off_reads, counts_of, drawable,
+    exact_reads_on, farthest_read, first_begun, greatest, keys_of, lane_at, lanes_of, mark_keys,
+    mark_query_reads, marks_of, marks_on, mistakes_on, nearest_to, note_excesses, note_sides,
+    off_reads_on, reason_of_farthest, sum_of, with_drawn, with_exports,
+};
 use esr_timeline_data::{
     Arrow, ChargeSum, Farthest, Lane, ListedRead, Mark, Nearest, Order, Rest, Scene,
 };

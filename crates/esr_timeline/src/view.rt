@@ -5,13 +5,12 @@ ghost use Rattle.esr_svg.specs.Svg.{IsSvg};
 
 use crate::drawing::{Parts, parts_of};
 use crate::fit::{Pictures, timeline_of_query, timeline_of_script, timeline_of_traced};
-use crate::lanes::farthest;
-use crate::source::{PlacedQuery, Source};
 use esr_audit::Finding;
 use esr_history::TxnId;
 use esr_lint::Notes;
 use esr_outcomes::Auditor;
 use esr_svg::svg_element;
+use esr_timeline_content::{PlacedQuery, Source, farthest_query};
 use esr_trace::{Audited, Part, Traced};
 use esr_views::{Recording, ScriptView};
 use std::alloc::{AllocError, Global};
@@ -64,7 +63,7 @@ fn finding_of(
 ) -> Result<Option<Finding>, AllocError> {
     let query = match query {
         Some(query) => Some(query),
-        None => farthest(alloc, auditor)?,
+        None => farthest_query(alloc, auditor)?,
     };
     match query {
         Some(query) => auditor.finding(alloc, query),

@@ -154,7 +154,7 @@ fn is_farther(a: (u64, u64), b: (u64, u64)) -> bool {
 }
 
 /// Returns the committed query with the greatest distance.
-pub fn farthest(alloc: Global, auditor: &Auditor<'_>) -> Result<Option<TxnId>, AllocError> {
+pub fn farthest_query(alloc: Global, auditor: &Auditor<'_>) -> Result<Option<TxnId>, AllocError> {
     let mut best = None;
     let mut upper_bound = (0, 0);
     for txn in auditor.commits() {
