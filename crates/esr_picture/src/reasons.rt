@@ -4,20 +4,23 @@ use esr_history::TxnId;
 use esr_outcomes::{TxnOutcome, outcome_of};
 use esr_report::name_of_transaction;
 use esr_svg::{Entry, Row, Scene};
-use esr_text::{first, push_count, push_number};
+use esr_text::{first, push_count, push_number, push_value};
 use esr_trace::{
-    Alternative, Audited, MAX_ALTERNATIVES, NearestPlacement, QueryTrace, Reason, Reasons,
-    Replaced, Sum,
+    Alternative, Audited, MAX_ALTERNATIVES, NearestPlacement, QueryTrace, ReadSum, Reason, Reasons,
+    total_of_reads,
 };
 use std::alloc::{AllocError, Global};
 
 /// The maximum number of updates that have sentences and no table.
 const MAX_SENTENCES: usize = 3;
 
-/// The maximum number of items in a cell, and of updates.
-const MAX_ITEMS: usize = 6;
+/// The maximum number of reads in a cell, and of updates.
+const MAX_READS: usize = 6;
 
 const MAX_UPDATES: usize = 4;
+
+/// The maximum number of letters of a read in one line.
+const MAX_LETTERS: usize = 16;
 
 /// Returns an entry of words and an amount.
 fn entry(alloc: Global, words: &str, amount: Option<u64>) -> Result<Entry, AllocError> {
@@ -39,7 +42,7 @@ fn head_row(alloc: Global) -> Result<Row, AllocError> {
     let mut cells = Vec::new(alloc);
     cells.push(cell(alloc, "update", None)?)?;
     cells.push(cell(alloc, "in state", None)?)?;
-    cells.push(cell(alloc, "puts off", None)?)?;
+    cells.push(cell(alloc, "reads off", None)?)?;
     cells.push(cell(alloc, "moves with it", None)?)?;
     cells.push(cell(alloc, "nearer then", None)?)?;
     cells.push(cell(alloc, "farther then", None)?)?;
@@ -47,24 +50,18 @@ fn head_row(alloc: Global) -> Result<Row, AllocError> {
     Ok(Row { cells })
 }
 
-/// Adds the number and the sum of the items that are not named, and the sum of all if there are several.
-fn push_totals(alloc: Global, cell: &mut Vec<Entry>, sums: &[Sum]) -> Result<(), AllocError> {
-    let mut total = 0u64;
-    let mut rest = 0u64;
-    for (place, sum) in sums.iter().enumerate() {
-        total = total.saturating_add(sum.amount);
-        if place >= MAX_ITEMS {
-            rest = rest.saturating_add(sum.amount);
-        }
-    }
-    let others = sums.len().saturating_sub(MAX_ITEMS);
+/// Adds the number and the sum of the reads that are not named, and the sum of all if there are several.
+fn push_totals(alloc: Global, cell: &mut Vec<Entry>, sums: &[ReadSum]) -> Result<(), AllocError> {
+    let total = total_of_reads(sums);
+    let others = sums.len().saturating_sub(MAX_READS);
     if others > 0 {
         let mut words = String::new(alloc);
         push_number(&mut words, others as u64)?;
         words.push_str(" more")?;
+        let named = total_of_reads(first(sums, MAX_READS));
         cell.push(Entry {
             words,
-            amount: Some(rest),
+            amount: Some(total.saturating_sub(named)),
         })?;
     }
     if sums.len() > 1 {
@@ -73,101 +70,54 @@ fn push_totals(alloc: Global, cell: &mut Vec<Entry>, sums: &[Sum]) -> Result<(),
     Ok(())
 }
 
-/// Returns the writer of the value that an item would have.
-fn writer_words(
-    alloc: Global,
-    audited: &Audited<'_>,
-    replaced: &Replaced,
-) -> Result<String, AllocError> {
-    let mut words = String::from_str(alloc, "then ")?;
-    match replaced.writer {
-        Some(writer) => {
-            words.push_str("of ")?;
-            words.push_str(name_of_transaction(audited.transactions, writer))?;
-        }
-        None => words.push_str("opening")?,
-    }
-    Ok(words)
-}
-
-/// Adds the writer of an item that would not be nearer, if it is one.
-fn push_writer(
+/// Adds a read with its amount. If the query read several values of the item, the value is next to the name or below it.
+fn push_read(
     alloc: Global,
     cell: &mut Vec<Entry>,
     audited: &Audited<'_>,
-    replaced: &[Replaced],
-    item: u32,
+    sum: ReadSum,
 ) -> Result<(), AllocError> {
-    if let Some(found) = replaced.iter().find(|other| other.item == item) {
+    let ReadSum { reading, amount } = sum;
+    let mut words = String::new(alloc);
+    reading.push_name(&mut words, audited.items)?;
+    let is_long = words.len() > MAX_LETTERS;
+    if is_long {
+        words.clear();
+        words.push_str(audited.items.name_of(reading.item).unwrap_or(""))?;
+    }
+    cell.push(Entry {
+        words,
+        amount: Some(amount),
+    })?;
+    if is_long && !reading.is_only {
+        let mut value = String::new(alloc);
+        value.push('(')?;
+        push_value(&mut value, reading.value)?;
+        value.push(')')?;
         cell.push(Entry {
-            words: writer_words(alloc, audited, found)?,
+            words: value,
             amount: None,
         })?;
     }
     Ok(())
 }
 
-/// Adds items with their amounts.
-fn push_sums(
-    alloc: Global,
-    cell: &mut Vec<Entry>,
-    audited: &Audited<'_>,
-    sums: &[Sum],
-    replaced: &[Replaced],
-) -> Result<(), AllocError> {
-    for sum in first(sums, MAX_ITEMS) {
-        let name = audited.items.name_of(sum.number).unwrap_or("");
-        cell.push(entry(alloc, name, Some(sum.amount))?)?;
-        push_writer(alloc, cell, audited, replaced, sum.number)?;
-    }
-    push_totals(alloc, cell, sums)
-}
-
-/// Returns the items whose reads are explained.
+/// Returns a cell of reads with their amounts. If it is that of the reads that are off, it says which had values that were
+/// overwritten.
 fn reads_cell(
     alloc: Global,
     audited: &Audited<'_>,
-    reason: &Reason,
+    sums: &[ReadSum],
+    are_off: bool,
 ) -> Result<Vec<Entry>, AllocError> {
     let mut cell = Vec::new(alloc);
-    push_sums(alloc, &mut cell, audited, &reason.reads, &[])?;
-    Ok(cell)
-}
-
-/// Returns the items that would be nearer, after the explained ones that would be as far off.
-fn nearer_cell(
-    alloc: Global,
-    audited: &Audited<'_>,
-    alternative: &Alternative,
-) -> Result<Vec<Entry>, AllocError> {
-    let mut cell = Vec::new(alloc);
-    for replaced in first(&alternative.replaced, MAX_ITEMS) {
-        if !replaced.is_farther {
-            let name = audited.items.name_of(replaced.item).unwrap_or("");
-            cell.push(entry(alloc, name, Some(0))?)?;
-            cell.push(Entry {
-                words: writer_words(alloc, audited, replaced)?,
-                amount: None,
-            })?;
+    for sum in first(sums, MAX_READS) {
+        push_read(alloc, &mut cell, audited, *sum)?;
+        if are_off && sum.reading.is_overwritten {
+            cell.push(entry(alloc, "overwritten", None)?)?;
         }
     }
-    push_sums(alloc, &mut cell, audited, &alternative.nearer, &[])?;
-    Ok(cell)
-}
-
-/// Returns the items that would be farther.
-fn farther_cell(
-    alloc: Global,
-    audited: &Audited<'_>,
-    alternative: &Alternative,
-) -> Result<Vec<Entry>, AllocError> {
-    let mut cell = Vec::new(alloc);
-    let Alternative {
-        farther,
-        replaced,
-        ..
-    } = alternative;
-    push_sums(alloc, &mut cell, audited, farther, replaced)?;
+    push_totals(alloc, &mut cell, sums)?;
     Ok(cell)
 }
 
@@ -231,8 +181,8 @@ fn push_alternative(
     alternative: &Alternative,
 ) -> Result<(), AllocError> {
     cells.push(others_cell(alloc, audited, &alternative.others)?)?;
-    cells.push(nearer_cell(alloc, audited, alternative)?)?;
-    cells.push(farther_cell(alloc, audited, alternative)?)?;
+    cells.push(reads_cell(alloc, audited, &alternative.nearer, false)?)?;
+    cells.push(reads_cell(alloc, audited, &alternative.farther, false)?)?;
     cells.push(result_cell(alloc, audited.finding.distance, alternative)?)?;
     Ok(())
 }
@@ -248,7 +198,7 @@ fn row_of(alloc: Global, audited: &Audited<'_>, reason: &Reason) -> Result<Row, 
     };
     cells.push(cell(alloc, name, None)?)?;
     cells.push(cell(alloc, side, None)?)?;
-    cells.push(reads_cell(alloc, audited, reason)?)?;
+    cells.push(reads_cell(alloc, audited, &reason.reads, true)?)?;
     match &reason.alternative {
         Some(alternative) => push_alternative(alloc, &mut cells, audited, alternative)?,
         None => cells.push(cell(alloc, "in no state", None)?)?,
@@ -353,9 +303,18 @@ fn push_table_words(
         " reads in all are off",
     )?;
     out.push_str(
-        ", because of these updates, that of the farthest read first. If an update changes sides of the line, others must move with it, some items are nearer then and others farther, and ",
+        ", because of these updates, that of the farthest read first. If an update changes sides of the line, its reads are exact then. But others must move with it, more reads are nearer or farther then, and ",
     )?;
     write!(out, "{query} is off by as much or more.")?;
+    if reasons
+        .reasons
+        .iter()
+        .any(|reason| reason.has_overwritten())
+    {
+        out.push_str(
+            " Overwritten: the writer of the value overwrote it before the end, so no state has it.",
+        )?;
+    }
     if reasons.reasons.iter().any(|reason| is_required(reason)) {
         write!(
             out,
@@ -370,13 +329,13 @@ pub fn add_reasons(
     alloc: Global,
     scene: &mut Scene<'_>,
     audited: &Audited<'_>,
+    placement: &NearestPlacement,
     trace: &QueryTrace,
 ) -> Result<(), AllocError> {
     if audited.finding.distance == 0 {
         return Ok(());
     }
-    let placement = NearestPlacement::after(alloc, audited.history, &audited.finding.before)?;
-    let reasons = Reasons::of(alloc, audited, &placement, trace, MAX_ALTERNATIVES)?;
+    let reasons = Reasons::of(alloc, audited, placement, trace, MAX_ALTERNATIVES)?;
     push_sentence(alloc, &mut scene.reasons, audited, &reasons.without_all)?;
     push_sentence(alloc, &mut scene.reasons, audited, &reasons.with_all)?;
     if reasons.reasons.len() > MAX_SENTENCES {

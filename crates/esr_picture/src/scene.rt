@@ -105,9 +105,10 @@ fn relevant_positions(
     audited: &Audited<'_>,
     trace: &QueryTrace,
     positions: &Positions,
+    placement: &NearestPlacement,
 ) -> Result<Vec<u32>, AllocError> {
-    let placement = NearestPlacement::after(alloc, audited.history, &audited.finding.before)?;
-    let causes = placement.causes(alloc, audited.history, trace)?;
+    let problem = &audited.finding.problem;
+    let causes = placement.causes(alloc, audited.history, problem, trace)?;
     let mut wanted = relevant_updates(alloc, trace, &[], &[], MAX_CHARGERS)?;
     wanted.extend_from_slice(&causes)?;
     let mut first_causes = relevant_updates(alloc, trace, &causes, &[], FIRST_CAUSES)?;
@@ -142,6 +143,7 @@ struct Source<'a> {
     audited: &'a Audited<'a>,
     trace: &'a QueryTrace,
     positions: Positions,
+    placement: NearestPlacement,
     /// For each chain whether its item was never written and has no lane.
     unwritten: Vec<bool>,
     /// The updates to draw first, by their positions.
@@ -159,11 +161,13 @@ impl<'a> Source<'a> {
         let problem = &audited.finding.problem;
         let begun = audited.history.begun_count();
         let positions = Positions::new(alloc, problem.updates(), begun)?;
-        let relevant = relevant_positions(alloc, audited, trace, &positions)?;
+        let placement = NearestPlacement::after(alloc, audited.history, &audited.finding.before)?;
+        let relevant = relevant_positions(alloc, audited, trace, &positions, &placement)?;
         let set = &audited.finding.certificate.set;
         Ok(Source {
             audited,
             trace,
+            placement,
             unwritten: unwritten(alloc, audited.history, problem.chains())?,
             relevant_before: common(alloc, &relevant, set)?,
             relevant,
@@ -522,6 +526,6 @@ pub fn scene_of<'a>(
         extent = extent.reduced(fitting, tries);
         scene = scene_with(alloc, &source, extent)?;
     }
-    add_reasons(alloc, &mut scene, audited, trace)?;
+    add_reasons(alloc, &mut scene, audited, &source.placement, trace)?;
     Ok(scene)
 }

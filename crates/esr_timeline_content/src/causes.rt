@@ -120,14 +120,20 @@ impl Causes {
         Ok(causes)
     }
 
-    /// Returns the cause of each read that is off, those of the farthest reads first.
+    /// Returns the cause of each read of the placed query that is off, those of the farthest reads first.
     pub fn of_reads(
         &self,
         alloc: Global,
         source: Source<'_>,
         trace: &QueryTrace,
     ) -> Result<Vec<TxnId>, AllocError> {
-        self.placement.causes(alloc, source.history, trace)
+        match source.placed {
+            Some(placed) => {
+                let problem = &placed.finding.problem;
+                self.placement.causes(alloc, source.history, problem, trace)
+            }
+            None => Ok(Vec::new(alloc)),
+        }
     }
 
     /// Returns whether an event of an update before the placement writes the value that the item has there.

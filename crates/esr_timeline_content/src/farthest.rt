@@ -8,8 +8,29 @@ use esr_timeline_data::{Arrow, Farthest, Reason};
 use esr_trace::{Audited, ObservedRead, QueryTrace, Reasons};
 use std::alloc::{AllocError, Global};
 
-/// Returns the charge that explains a read best: of its group the first in the ranking, and after the read if that came too
-/// early.
+/// Returns the first charge of a group that explains reads in this order.
+fn first_of_group<'a>(arrows: &[Arrow<'a>], order: &[usize], group: usize) -> Option<Arrow<'a>> {
+    for index in order {
+        if let Some(arrow) = arrows.get(*index)
+            && arrow.explained > 0
+            && arrow.group == group
+        {
+            return Some(*arrow);
+        }
+    }
+    None
+}
+
+/// Returns the first charge of a group that explains reads and came after an entry.
+fn first_after<'a>(arrows: &[Arrow<'a>], group: usize, place: usize) -> Option<Arrow<'a>> {
+    arrows
+        .iter()
+        .find(|arrow| arrow.explained > 0 && arrow.group == group && arrow.place > place)
+        .copied()
+}
+
+/// Returns the charge that explains a read best: of its group the first in the ranking, or if the read came too early the first
+/// one after it.
 fn best_charge<'a>(
     alloc: Global,
     causes: &Causes,
@@ -17,17 +38,10 @@ fn best_charge<'a>(
     arrows: &[Arrow<'a>],
 ) -> Result<Option<Arrow<'a>>, AllocError> {
     let group = causes.group_of(observed);
-    let is_late = causes.late_cause(observed).is_some();
-    for index in &ranking(alloc, arrows)? {
-        if let Some(arrow) = arrows.get(*index)
-            && arrow.explained > 0
-            && arrow.group == group
-            && (is_late || arrow.place > observed.place)
-        {
-            return Ok(Some(*arrow));
-        }
+    if causes.late_cause(observed).is_some() {
+        return Ok(first_of_group(arrows, &ranking(alloc, arrows)?, group));
     }
-    Ok(None)
+    Ok(first_after(arrows, group, observed.place))
 }
 
 /// Returns whether a charge is for a read of the query.

@@ -6,9 +6,11 @@
 //! separate bit, so the pairs of a problem are passed over once for all of them. Rejected: the charge of one update, since it does
 //! not add up to that difference.
 
-use crate::trace::{Sum, total_of};
+use crate::readings::{ReadSum, Reading, Readings, total_of_reads};
 use esr_cert::{Chain, Problem};
-use esr_history::TxnId;
+use esr_history::{History, TxnId};
+use esr_items::{ItemId, Weighted};
+use esr_order::accesses_of;
 use esr_report::{Names, name_of_transaction};
 use esr_text::{first, push_count, push_number};
 use std::alloc::{AllocError, Global};
@@ -16,7 +18,7 @@ use std::alloc::{AllocError, Global};
 /// The maximum number of updates whose other sides are compared.
 pub const MAX_ALTERNATIVES: usize = 64;
 
-/// The maximum number of updates that are named, and of items.
+/// The maximum number of updates that are named, and of reads.
 const MAX_NAMED: usize = 3;
 
 /// The update, or the updates, whose other side is compared.
@@ -29,16 +31,6 @@ pub enum Subject {
     After(u64),
 }
 
-/// An item of the explained reads that would not be nearer, although it would have another value.
-#[derive(Clone, Copy)]
-pub struct Replaced {
-    pub item: u32,
-    /// The update that would have written its value, unless that is the opening value.
-    pub writer: Option<TxnId>,
-    /// Whether the reads would be farther, and not as far.
-    pub is_farther: bool,
-}
-
 /// A nearest placement with one update, or several, on the other side.
 #[derive(Drop)]
 pub struct Alternative {
@@ -49,18 +41,18 @@ pub struct Alternative {
     pub others: Vec<TxnId>,
     /// The one of the updates taken away that has to be before a strict query.
     pub required: Option<TxnId>,
-    /// The items whose reads would be nearer, and by how much: those that are to be explained first, then the greatest amounts.
-    pub nearer: Vec<Sum>,
-    /// Those whose reads would be farther.
-    pub farther: Vec<Sum>,
-    /// The items to be explained whose reads would not be nearer.
-    pub replaced: Vec<Replaced>,
+    /// The reads that would be nearer, and by how much: those that are to be explained first, then the greatest amounts.
+    pub nearer: Vec<ReadSum>,
+    /// Those that would be farther.
+    pub farther: Vec<ReadSum>,
 }
 
 /// A nearest placement with some updates, and the sides that all updates have if each of those is on its other side.
 #[derive(Drop)]
 pub struct Alternatives<'a> {
+    history: &'a History<Weighted>,
     problem: &'a Problem,
+    readings: &'a Readings,
     /// For each update by its position: whether it is before the placement.
     inside: Vec<bool>,
     /// The position of each of the updates to be explained, if it committed before the query did.
@@ -140,9 +132,20 @@ fn movers_of(alloc: Global, moved: &[u64]) -> Result<Vec<u32>, AllocError> {
     Ok(movers)
 }
 
-/// Returns the cost of a version of a chain.
-fn cost_at(chain: &Chain, version: usize) -> u64 {
-    chain.costs.get(version).copied().unwrap_or(0)
+/// Returns the value that an update left of an item.
+fn value_left(
+    alloc: Global,
+    history: &History<Weighted>,
+    update: TxnId,
+    item: ItemId,
+) -> Result<i64, AllocError> {
+    let mut value = 0i64;
+    for access in &accesses_of(alloc, history, update)? {
+        if access.writes && access.item == item {
+            value = access.value;
+        }
+    }
+    Ok(value)
 }
 
 /// Returns whether an update has a bit.
@@ -156,42 +159,33 @@ fn version_at(chain: &Chain, inside: &[bool], moved: &[u64], bit: u64) -> usize 
         != has_bit(moved, *writer, bit))
 }
 
-/// The changes of the costs of the chains, with their ranks.
+/// Returns whether a reading is one of these.
+fn is_among(sums: &[ReadSum], reading: &Reading) -> bool {
+    sums.iter().any(|sum| sum.reading.is_same(reading))
+}
+
+/// The differences of the distances of readings, with their ranks.
 #[derive(Drop)]
 struct Changes {
-    nearer: Vec<(u8, u64, u32)>,
-    farther: Vec<(u8, u64, u32)>,
-    replaced: Vec<Replaced>,
+    nearer: Vec<(u8, u64, usize)>,
+    farther: Vec<(u8, u64, usize)>,
 }
 
 impl Changes {
-    /// Notes the costs of an item at the placement and at the other one. The rank of the items to be explained is 0.
-    fn note(&mut self, item: u32, rank: u8, here: u64, there: u64) -> Result<(), AllocError> {
+    /// Notes the distances of a reading at the placement and at the other one. The rank of the readings to be explained is 0.
+    fn note(&mut self, index: usize, rank: u8, here: u64, there: u64) -> Result<(), AllocError> {
         if there < here {
             let amount = here.saturating_sub(there);
             self.nearer
-                .push((rank, u64::MAX.saturating_sub(amount), item))?;
+                .push((rank, u64::MAX.saturating_sub(amount), index))?;
         }
         if there > here {
             let amount = there.saturating_sub(here);
             self.farther
-                .push((rank, u64::MAX.saturating_sub(amount), item))?;
+                .push((rank, u64::MAX.saturating_sub(amount), index))?;
         }
         Ok(())
     }
-}
-
-/// Returns the sums of some ranks, in their order.
-fn sums_of(alloc: Global, mut ranks: Vec<(u8, u64, u32)>) -> Result<Vec<Sum>, AllocError> {
-    ranks.sort_unstable();
-    let mut sums = Vec::new(alloc);
-    for (_, rank, number) in &ranks {
-        sums.push(Sum {
-            number: *number,
-            amount: u64::MAX.saturating_sub(*rank),
-        })?;
-    }
-    Ok(sums)
 }
 
 impl<'a> Alternatives<'a> {
@@ -199,7 +193,9 @@ impl<'a> Alternatives<'a> {
     /// [`MAX_ALTERNATIVES`] are explained.
     pub fn of(
         alloc: Global,
+        history: &'a History<Weighted>,
         problem: &'a Problem,
+        readings: &'a Readings,
         set: &[u32],
         positions: Vec<Option<u32>>,
     ) -> Result<Alternatives<'a>, AllocError> {
@@ -215,7 +211,9 @@ impl<'a> Alternatives<'a> {
         move_successors(&mut moved, &inside, problem.before());
         let movers = movers_of(alloc, &moved)?;
         Ok(Alternatives {
+            history,
             problem,
+            readings,
             inside,
             positions,
             moved,
@@ -263,36 +261,81 @@ impl<'a> Alternatives<'a> {
         None
     }
 
-    /// Notes how the cost of a chain changes if it has this version.
-    fn note(
+    /// Returns the value of a version of a chain.
+    fn value(&self, alloc: Global, chain: &Chain, version: usize) -> Result<i64, AllocError> {
+        match self.writer(chain, version) {
+            Some(update) => value_left(alloc, self.history, update, chain.item),
+            None => {
+                let opening = self.history.opening_values().get(chain.item.0 as usize);
+                Ok(opening.copied().unwrap_or(0))
+            }
+        }
+    }
+
+    /// Notes how the distances of the readings of an item change if it has one value in place of another.
+    fn note_values(
         &self,
         changes: &mut Changes,
-        chain: &Chain,
-        version: usize,
-        items: &[u32],
+        item: u32,
+        values: (i64, i64),
+        explained: &[ReadSum],
     ) -> Result<(), AllocError> {
-        let here = cost_at(chain, self.version(chain, 0));
-        let there = cost_at(chain, version);
-        let is_explained = items.contains(&chain.item.0);
-        let rank = if is_explained { 0 } else { 1 };
-        changes.note(chain.item.0, rank, here, there)?;
-        if is_explained && there >= here {
-            changes.replaced.push(Replaced {
-                item: chain.item.0,
-                writer: self.writer(chain, version),
-                is_farther: there > here,
-            })?;
+        let (here, there) = values;
+        for index in self.readings.start(item)..self.readings.end(item) {
+            if let Some(reading) = self.readings.at(index) {
+                let rank = if is_among(explained, &reading) { 0 } else { 1 };
+                let distance = reading.distance(self.history, here);
+                changes.note(index, rank, distance, reading.distance(self.history, there))?;
+            }
         }
         Ok(())
     }
 
-    /// Returns the placement with an explained update on its other side, if it committed before the query did. The reads of these
-    /// items are to be explained.
+    /// Notes how the distances of the readings of an item change if its chain has this version.
+    fn note(
+        &self,
+        alloc: Global,
+        changes: &mut Changes,
+        chain: &Chain,
+        version: usize,
+        explained: &[ReadSum],
+    ) -> Result<(), AllocError> {
+        let own = self.version(chain, 0);
+        if version == own {
+            return Ok(());
+        }
+        let here = self.value(alloc, chain, own)?;
+        let there = self.value(alloc, chain, version)?;
+        self.note_values(changes, chain.item.0, (here, there), explained)
+    }
+
+    /// Returns the alternative of a subject with these changes.
+    fn alternative(
+        &self,
+        alloc: Global,
+        subject: Subject,
+        is_added: bool,
+        mut changes: Changes,
+    ) -> Result<Alternative, AllocError> {
+        changes.nearer.sort_unstable();
+        changes.farther.sort_unstable();
+        Ok(Alternative {
+            subject,
+            is_added,
+            others: Vec::new(alloc),
+            required: None,
+            nearer: self.readings.sums(alloc, &changes.nearer)?,
+            farther: self.readings.sums(alloc, &changes.farther)?,
+        })
+    }
+
+    /// Returns the placement with an explained update on its other side, if it committed before the query did. It explains these
+    /// reads.
     pub fn with_moved(
         &self,
         alloc: Global,
         number: usize,
-        items: &[u32],
+        explained: &[ReadSum],
     ) -> Result<Option<Alternative>, AllocError> {
         let Some(position) = self.positions.get(number).copied().flatten() else {
             return Ok(None);
@@ -303,11 +346,12 @@ impl<'a> Alternatives<'a> {
         let bit = bit_of(number);
         let mut changes = no_changes(alloc);
         for chain in self.problem.chains() {
-            self.note(&mut changes, chain, self.version(chain, bit), items)?;
+            let version = self.version(chain, bit);
+            self.note(alloc, &mut changes, chain, version, explained)?;
         }
         let is_added = !has_flag(&self.inside, position);
         let subject = Subject::Update(update);
-        let mut alternative = alternative_of(alloc, subject, is_added, changes)?;
+        let mut alternative = self.alternative(alloc, subject, is_added, changes)?;
         alternative.others = self.others(alloc, bit, position)?;
         alternative.required = if is_added { None } else { self.required(bit) };
         Ok(Some(alternative))
@@ -326,10 +370,10 @@ impl<'a> Alternatives<'a> {
         }
         let mut changes = no_changes(alloc);
         for chain in self.problem.chains() {
-            self.note(&mut changes, chain, 0, &[])?;
+            self.note(alloc, &mut changes, chain, 0, &[])?;
         }
         let subject = Subject::Before(count as u64);
-        Ok(Some(alternative_of(alloc, subject, false, changes)?))
+        Ok(Some(self.alternative(alloc, subject, false, changes)?))
     }
 
     /// Returns the last values in place of the placement, if several updates are not before it.
@@ -340,34 +384,11 @@ impl<'a> Alternatives<'a> {
         }
         let mut changes = no_changes(alloc);
         for chain in self.problem.chains() {
-            self.note(&mut changes, chain, chain.writers.len(), &[])?;
+            self.note(alloc, &mut changes, chain, chain.writers.len(), &[])?;
         }
         let subject = Subject::After(count as u64);
-        Ok(Some(alternative_of(alloc, subject, true, changes)?))
+        Ok(Some(self.alternative(alloc, subject, true, changes)?))
     }
-}
-
-/// Returns the alternative of a subject with these changes.
-fn alternative_of(
-    alloc: Global,
-    subject: Subject,
-    is_added: bool,
-    changes: Changes,
-) -> Result<Alternative, AllocError> {
-    let Changes {
-        nearer,
-        farther,
-        replaced,
-    } = changes;
-    Ok(Alternative {
-        subject,
-        is_added,
-        others: Vec::new(alloc),
-        required: None,
-        nearer: sums_of(alloc, nearer)?,
-        farther: sums_of(alloc, farther)?,
-        replaced,
-    })
 }
 
 /// Returns no changes.
@@ -375,27 +396,25 @@ fn no_changes(alloc: Global) -> Changes {
     Changes {
         nearer: Vec::new(alloc),
         farther: Vec::new(alloc),
-        replaced: Vec::new(alloc),
     }
 }
 
 impl Alternative {
-    /// Returns whether no read would be nearer or farther.
-    fn changes_nothing(&self) -> bool {
-        self.required.is_none()
+    /// Returns whether all updates on one side are compared, and no read would be nearer or farther.
+    fn says_nothing(&self) -> bool {
+        !matches!(self.subject, Subject::Update(_))
             && self.nearer.is_empty()
             && self.farther.is_empty()
-            && self.replaced.is_empty()
     }
 
     /// Returns the sum of the amounts by which reads would be nearer.
     pub fn nearer_total(&self) -> u64 {
-        total_of(&self.nearer)
+        total_of_reads(&self.nearer)
     }
 
     /// Returns the sum of the amounts by which reads would be farther.
     pub fn farther_total(&self) -> u64 {
-        total_of(&self.farther)
+        total_of_reads(&self.farther)
     }
 
     /// Appends the names of the other updates, and the number of those that are not named.
@@ -478,31 +497,6 @@ impl Alternative {
         )
     }
 
-    /// Appends the explained items that would not be nearer, with the writers of the values that they would have.
-    fn push_replaced(
-        &self,
-        out: &mut String,
-        items: &Names,
-        transactions: &Names,
-    ) -> Result<(), AllocError> {
-        for replaced in first(&self.replaced, MAX_NAMED) {
-            out.push_str(items.name_of(replaced.item).unwrap_or(""))?;
-            match replaced.writer {
-                Some(writer) => {
-                    out.push_str(" would be of ")?;
-                    out.push_str(name_of_transaction(transactions, writer))?;
-                }
-                None => out.push_str(" would have its opening value")?,
-            }
-            out.push_str(if replaced.is_farther {
-                "; "
-            } else {
-                ", as far off; "
-            })?;
-        }
-        Ok(())
-    }
-
     /// Appends by how much reads would be nearer and farther, and the distance then.
     fn push_sums(&self, out: &mut String, items: &Names, distance: u64) -> Result<(), AllocError> {
         if self.nearer.is_empty() {
@@ -524,7 +518,7 @@ impl Alternative {
     }
 
     /// Appends a sentence on why the update is before the nearest placement of a query of this name and distance, or why it is
-    /// not, unless the reads would be the same.
+    /// not. There is none on all updates of a side if the reads would be as far off.
     pub fn push(
         &self,
         out: &mut String,
@@ -532,7 +526,7 @@ impl Alternative {
         transactions: &Names,
         (query, distance): (&str, u64),
     ) -> Result<(), AllocError> {
-        if self.changes_nothing() {
+        if self.says_nothing() {
             return Ok(());
         }
         self.push_subject(out, transactions)?;
@@ -540,16 +534,15 @@ impl Alternative {
             return self.push_required(out, transactions, query, required);
         }
         self.push_moved(out, transactions)?;
-        self.push_replaced(out, items, transactions)?;
         self.push_sums(out, items, distance)
     }
 }
 
-/// Appends the first items with their amounts, the number and the sum of the others, and the sum of all if there are several.
+/// Appends the first reads with their amounts, the number and the sum of the others, and the sum of all if there are several.
 fn push_differences(
     out: &mut String,
     items: &Names,
-    sums: &[Sum],
+    sums: &[ReadSum],
     words: &str,
 ) -> Result<(), AllocError> {
     let named = first(sums, MAX_NAMED);
@@ -557,18 +550,18 @@ fn push_differences(
     let mut words = words;
     for sum in named {
         out.push_str(joint)?;
-        out.push_str(items.name_of(sum.number).unwrap_or(""))?;
+        sum.reading.push_name(out, items)?;
         out.push_str(words)?;
         push_number(out, sum.amount)?;
         joint = ", ";
         words = " by ";
     }
-    let total = total_of(sums);
+    let total = total_of_reads(sums);
     let others = sums.len().saturating_sub(named.len());
     if others > 0 {
         out.push_str(joint)?;
-        push_count(out, others as u64, " more item by ", " more items by ")?;
-        push_number(out, total.saturating_sub(total_of(named)))?;
+        push_count(out, others as u64, " more by ", " more by ")?;
+        push_number(out, total.saturating_sub(total_of_reads(named)))?;
     }
     if sums.len() > 1 {
         out.push_str(", together ")?;

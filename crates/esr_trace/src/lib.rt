@@ -8,6 +8,7 @@
 mod alternative;
 mod part;
 mod positions;
+mod readings;
 mod reasons;
 mod relevance;
 mod sentences;
@@ -16,9 +17,10 @@ mod sum_errors;
 mod trace;
 mod traces;
 
-pub use alternative::{Alternative, MAX_ALTERNATIVES, Replaced, Subject};
+pub use alternative::{Alternative, MAX_ALTERNATIVES, Subject};
 pub use part::Part;
 pub use positions::Positions;
+pub use readings::{ReadSum, Reading, total_of_reads};
 pub use reasons::{Reason, Reasons};
 pub use relevance::{NearestPlacement, relevant_updates};
 pub use sentences::{

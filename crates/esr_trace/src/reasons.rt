@@ -3,21 +3,26 @@
 
 use crate::alternative::{Alternative, Alternatives, MAX_ALTERNATIVES};
 use crate::positions::Positions;
+use crate::readings::{ReadSum, Readings, total_of_reads};
 use crate::relevance::{ExplainedRead, NearestPlacement};
 use crate::subject::Audited;
-use crate::trace::{QueryTrace, Sum, total_of};
+use crate::trace::QueryTrace;
 use esr_history::TxnId;
 use esr_outcomes::{TxnOutcome, outcome_of};
 use esr_report::name_of_transaction;
 use esr_text::first;
 use std::alloc::{AllocError, Global};
 
+/// Why moving an update does not make a read exact.
+const OVERWRITTEN: &str =
+    " It read a value that its writer overwrote before the end, so no state has that value.";
+
 /// An update that explains reads that are off.
 #[derive(Drop)]
 pub struct Reason {
     pub update: TxnId,
-    /// The items of these reads with their distances, the farthest read first.
-    pub reads: Vec<Sum>,
+    /// These reads with their distances, the farthest first.
+    pub reads: Vec<ReadSum>,
     /// The placement with the update on its other side, if it committed before the query did.
     pub alternative: Option<Alternative>,
 }
@@ -25,11 +30,15 @@ pub struct Reason {
 impl Reason {
     /// Returns the distance of the reads.
     pub fn distance(&self) -> u64 {
-        total_of(&self.reads)
+        total_of_reads(&self.reads)
     }
 
-    /// Appends a sentence on why the update is on its side of the nearest placement, unless the reads would be the same on the
-    /// other side.
+    /// Returns whether a read of it had a value that its writer overwrote.
+    pub fn has_overwritten(&self) -> bool {
+        self.reads.iter().any(|sum| sum.reading.is_overwritten)
+    }
+
+    /// Appends a sentence on why the update is on its side of the nearest placement, and one on values that were overwritten.
     pub fn push(&self, out: &mut String, audited: &Audited<'_>) -> Result<(), AllocError> {
         let finding = audited.finding;
         let query = name_of_transaction(audited.transactions, finding.query);
@@ -39,22 +48,32 @@ impl Reason {
                 audited.items,
                 audited.transactions,
                 (query, finding.distance),
-            ),
-            None => push_absence(out, audited, self.update, query),
+            )?,
+            None => push_absence(out, audited, self.update, query)?,
         }
+        if self.alternative.is_some() && self.has_overwritten() {
+            out.push_str(OVERWRITTEN)?;
+        }
+        Ok(())
     }
 
     /// Adds a read.
-    fn note(&mut self, read: &ExplainedRead) -> Result<(), AllocError> {
-        let place = self.reads.iter().position(|sum| sum.number == read.item);
+    fn note(&mut self, readings: &Readings, read: &ExplainedRead) -> Result<(), AllocError> {
+        let Some(reading) = readings.find(read.item, read.value) else {
+            return Ok(());
+        };
+        let place = self
+            .reads
+            .iter()
+            .position(|sum| sum.reading.is_same(&reading));
         if let Some(place) = place
             && let Some(sum) = self.reads.get_mut(place)
         {
             sum.amount = sum.amount.saturating_add(read.distance);
             return Ok(());
         }
-        self.reads.push(Sum {
-            number: read.item,
+        self.reads.push(ReadSum {
+            reading,
             amount: read.distance,
         })?;
         Ok(())
@@ -113,6 +132,7 @@ fn empty_reason(alloc: Global, update: TxnId) -> Reason {
 fn add_read(
     alloc: Global,
     reasons: &mut Vec<Reason>,
+    readings: &Readings,
     read: &ExplainedRead,
 ) -> Result<(), AllocError> {
     let place = reasons
@@ -121,17 +141,12 @@ fn add_read(
     if let Some(place) = place
         && let Some(reason) = reasons.get_mut(place)
     {
-        return reason.note(read);
+        return reason.note(readings, read);
     }
     let mut reason = empty_reason(alloc, read.cause);
-    reason.note(read)?;
+    reason.note(readings, read)?;
     reasons.push(reason)?;
     Ok(())
-}
-
-/// Returns the items of some reads.
-fn items_of(alloc: Global, reads: &[Sum]) -> Result<Vec<u32>, AllocError> {
-    reads.iter().map(|read| read.number).collect(alloc)
 }
 
 /// Returns the positions of the updates of some reasons.
@@ -152,6 +167,7 @@ impl Reasons {
     fn causes(
         alloc: Global,
         trace: &QueryTrace,
+        readings: &Readings,
         reads: &[ExplainedRead],
     ) -> Result<Reasons, AllocError> {
         let mut reasons = Reasons {
@@ -163,7 +179,7 @@ impl Reasons {
         };
         for read in reads {
             reasons.off = reasons.off.saturating_add(read.count);
-            add_read(alloc, &mut reasons.reasons, read)?;
+            add_read(alloc, &mut reasons.reasons, readings, read)?;
         }
         Ok(reasons)
     }
@@ -181,8 +197,7 @@ impl Reasons {
         number: usize,
     ) -> Result<(), AllocError> {
         if let Some(reason) = self.reasons.get_mut(number) {
-            let items = items_of(alloc, &reason.reads)?;
-            reason.alternative = alternatives.with_moved(alloc, number, &items)?;
+            reason.alternative = alternatives.with_moved(alloc, number, &reason.reads)?;
         }
         Ok(())
     }
@@ -192,14 +207,16 @@ impl Reasons {
         &mut self,
         alloc: Global,
         audited: &Audited<'_>,
+        readings: &Readings,
         upper_bound: usize,
     ) -> Result<(), AllocError> {
+        let history = audited.history;
         let problem = &audited.finding.problem;
-        let begun = audited.history.begun_count();
+        let begun = history.begun_count();
         let positions = Positions::new(alloc, problem.updates(), begun)?;
         let chosen = positions_of(alloc, first(&self.reasons, upper_bound), &positions)?;
         let set = &audited.finding.certificate.set;
-        let alternatives = Alternatives::of(alloc, problem, set, chosen)?;
+        let alternatives = Alternatives::of(alloc, history, problem, readings, set, chosen)?;
         for number in 0..upper_bound.min(self.reasons.len()) {
             self.complete(alloc, &alternatives, number)?;
         }
@@ -217,10 +234,13 @@ impl Reasons {
         trace: &QueryTrace,
         upper_bound: usize,
     ) -> Result<Reasons, AllocError> {
-        let reads = placement.explained(alloc, audited.history, trace)?;
-        let mut reasons = Reasons::causes(alloc, trace, &reads)?;
+        let problem = &audited.finding.problem;
+        let readings = Readings::of(alloc, trace)?;
+        let reads = placement.explained(alloc, audited.history, problem, trace)?;
+        let mut reasons = Reasons::causes(alloc, trace, &readings, &reads)?;
         if audited.finding.distance > 0 {
-            reasons.complete_all(alloc, audited, upper_bound.min(MAX_ALTERNATIVES))?;
+            let most = upper_bound.min(MAX_ALTERNATIVES);
+            reasons.complete_all(alloc, audited, &readings, most)?;
         }
         Ok(reasons)
     }

@@ -1,15 +1,18 @@
 //! Ranks the updates that a timeline and a picture of a query show first, if there is no space for all of them.
 //!
 //! The causes of the reads that are off come first, the farthest read first. The cause of a read is one update: the writer of
-//! the value that was read, if it is not before the nearest placement, or else the writer of the value there. Updates that
-//! explain charges of the causes follow, and then those that were charged most. The three that were charged most are named
+//! the value that was read, if it is not before the nearest placement, or else the first update before the placement that
+//! changed the item after that value. If the cause changes sides, with the updates that have to move with it, the item has the
+//! value that was read. Updates that explain charges of the causes follow, and then those that were charged most. The three that were charged most are named
 //! in a picture, so they have a place before: a lane, or a box after the causes of the two farthest reads. Timeline and
 //! picture use this one rule, so that both show the same updates. Rejected: a separate rule for each, by charges and by items: a reader then searches the
 //! updates of one in the other.
 
+use crate::positions::Positions;
 use crate::trace::{ObservedRead, QueryTrace};
+use esr_cert::{Chain, Problem};
 use esr_history::{History, TxnId};
-use esr_items::{Metric, Weighted};
+use esr_items::{ItemId, Metric, Weighted};
 use esr_order::{Access, accesses_of};
 use std::alloc::{AllocError, Global};
 
@@ -29,9 +32,52 @@ pub struct NearestPlacement {
 pub struct ExplainedRead {
     pub cause: TxnId,
     pub item: u32,
+    pub value: i64,
     pub count: u64,
     /// The distance of all of them.
     pub distance: u64,
+}
+
+/// The updates of a problem, with their positions.
+#[derive(Drop)]
+struct Updates<'a> {
+    problem: &'a Problem,
+    positions: Positions,
+}
+
+/// Returns the chain of an item.
+fn chain_of(problem: &Problem, item: ItemId) -> Option<&Chain> {
+    let chains = problem.chains();
+    let place = chains.partition_point(|chain| chain.item.0 < item.0);
+    chains.get(place).filter(|chain| chain.item == item)
+}
+
+impl<'a> Updates<'a> {
+    /// Returns the updates of a problem.
+    fn of(
+        alloc: Global,
+        history: &History<Weighted>,
+        problem: &'a Problem,
+    ) -> Result<Updates<'a>, AllocError> {
+        Ok(Updates {
+            problem,
+            positions: Positions::new(alloc, problem.updates(), history.begun_count())?,
+        })
+    }
+
+    /// Returns the update that wrote an item next after this writer, or after the opening value.
+    fn next_writer(&self, item: ItemId, writer: Option<TxnId>) -> Option<TxnId> {
+        let chain = chain_of(self.problem, item)?;
+        let version = match writer {
+            Some(writer) => {
+                let own = self.positions.of(writer)?;
+                chain.writers.partition_point(|position| *position <= own)
+            }
+            None => 0,
+        };
+        let next = chain.writers.get(version)?;
+        self.problem.updates().get(*next as usize).copied()
+    }
 }
 
 /// Returns flags for the updates before a placement.
@@ -116,11 +162,21 @@ impl NearestPlacement {
         }
     }
 
+    /// Returns the first update before the placement that changed an item after this writer, or after the opening value.
+    fn changer(&self, updates: &Updates<'_>, item: ItemId, writer: Option<TxnId>) -> Option<TxnId> {
+        updates
+            .next_writer(item, writer)
+            .filter(|update| self.has_before(*update))
+    }
+
     /// Returns the cause of a read that is off.
-    fn cause(&self, observed: &ObservedRead) -> Option<TxnId> {
+    fn cause(&self, updates: &Updates<'_>, observed: &ObservedRead) -> Option<TxnId> {
         match observed.writer {
             Some(writer) if !self.has_before(writer) => Some(writer),
-            _ => self.writer(observed.item.0),
+            writer => match self.changer(updates, observed.item, writer) {
+                Some(changer) => Some(changer),
+                None => self.writer(observed.item.0),
+            },
         }
     }
 
@@ -133,13 +189,13 @@ impl NearestPlacement {
         observed.value.abs_diff(value).saturating_mul(weight)
     }
 
-    /// Returns the reads that are off with their causes, the farthest first.
-    pub fn explained(
+    /// Returns the distances of the reads that are off as ranks, the farthest first.
+    fn off_ranks(
         &self,
         alloc: Global,
         history: &History<Weighted>,
         trace: &QueryTrace,
-    ) -> Result<Vec<ExplainedRead>, AllocError> {
+    ) -> Result<Vec<(u64, usize, usize)>, AllocError> {
         let mut ranks = Vec::new(alloc);
         for (index, observed) in trace.observed_reads.iter().enumerate() {
             let distance = self.distance(history, observed);
@@ -148,15 +204,28 @@ impl NearestPlacement {
             }
         }
         ranks.sort_unstable();
+        Ok(ranks)
+    }
+
+    /// Returns the reads of the query of a problem that are off with their causes, the farthest first.
+    pub fn explained(
+        &self,
+        alloc: Global,
+        history: &History<Weighted>,
+        problem: &Problem,
+        trace: &QueryTrace,
+    ) -> Result<Vec<ExplainedRead>, AllocError> {
+        let updates = Updates::of(alloc, history, problem)?;
         let mut explained = Vec::new(alloc);
-        for (rank, _, index) in &ranks {
+        for (rank, _, index) in &self.off_ranks(alloc, history, trace)? {
             if let Some(observed) = trace.observed_reads.get(*index)
-                && let Some(cause) = self.cause(observed)
+                && let Some(cause) = self.cause(&updates, observed)
             {
                 let distance = u64::MAX.saturating_sub(*rank);
                 explained.push(ExplainedRead {
                     cause,
                     item: observed.item.0,
+                    value: observed.value,
                     count: observed.count,
                     distance: distance.saturating_mul(observed.count),
                 })?;
@@ -165,14 +234,15 @@ impl NearestPlacement {
         Ok(explained)
     }
 
-    /// Returns the cause of each read that is off, those of the farthest reads first.
+    /// Returns the cause of each read of the query of a problem that is off, those of the farthest reads first.
     pub fn causes(
         &self,
         alloc: Global,
         history: &History<Weighted>,
+        problem: &Problem,
         trace: &QueryTrace,
     ) -> Result<Vec<TxnId>, AllocError> {
-        let explained = self.explained(alloc, history, trace)?;
+        let explained = self.explained(alloc, history, problem, trace)?;
         explained.iter().map(|read| read.cause).collect(alloc)
     }
 }
