@@ -2,10 +2,9 @@
 //! of their charges next to one another, the greatest first.
 
 use crate::elements::{close_text, open_end, open_text, push_text};
+use crate::grid::{Grid, Position};
 use crate::layout::{MARGIN, width_of};
-use crate::table::{
-    LIST_GAP, NARROW, ROW, SPACE, lines_of, push_lines, rows_height, sentences_height,
-};
+use crate::table::{NARROW, SPACE, lines_of, push_lines, rows_height, sentences_height};
 use esr_text::{first, number_letters, push_number};
 use esr_timeline_data::{ChargeSum, Scene};
 use std::alloc::{AllocError, Global};
@@ -23,12 +22,11 @@ const SUM_GAP: u32 = 14;
 pub struct ChargeTable {
     /// The sentence above it.
     lines: Vec<String>,
-    /// The number of updates in it, and in a row of it.
+    /// The number of updates in it.
     count: usize,
-    in_row: usize,
-    /// The widths of a name and of a sum.
-    name: u32,
-    sum: u32,
+    grid: Grid,
+    /// The width of a name and a sum.
+    width: u32,
     /// The number of the other updates, and their charges.
     rest: usize,
     rest_amount: u64,
@@ -43,15 +41,17 @@ fn total_of(sums: &[ChargeSum<'_>]) -> u64 {
     total
 }
 
-/// Returns the letters of the longest name, and of the longest sum.
-fn letters_of(sums: &[ChargeSum<'_>]) -> (usize, usize) {
+/// Returns the width of the longest name and the longest sum.
+fn cell_width(sums: &[ChargeSum<'_>]) -> u32 {
     let mut name = 0usize;
     let mut amount = 0usize;
     for sum in sums {
         name = name.max(sum.update.len());
         amount = amount.max(number_letters(sum.amount));
     }
-    (name, amount)
+    width_of(name)
+        .saturating_add(SUM_GAP)
+        .saturating_add(width_of(amount))
 }
 
 /// Appends what the table has.
@@ -83,50 +83,23 @@ impl ChargeTable {
         let space = width.saturating_sub(2 * MARGIN);
         let mut words = String::new(alloc);
         push_words(&mut words, scene)?;
-        let (name, amount) = letters_of(sums);
-        let mut table = ChargeTable {
+        let width = cell_width(sums);
+        Ok(Some(ChargeTable {
             lines: lines_of(alloc, &words, space)?,
             count: sums.len(),
-            in_row: 1,
-            name: width_of(name),
-            sum: width_of(amount),
+            grid: Grid::of(sums.len(), width, space),
+            width,
             rest: scene.charge_sums.len().saturating_sub(sums.len()),
             rest_amount: total_of(&scene.charge_sums).saturating_sub(total_of(sums)),
-        };
-        table.in_row = table.count_in_row(space);
-        Ok(Some(table))
-    }
-
-    /// Returns the distance of two updates in a row.
-    fn step(&self) -> u32 {
-        self.name
-            .saturating_add(self.sum)
-            .saturating_add(SUM_GAP + LIST_GAP)
-    }
-
-    /// Returns how many updates are in a row of this width.
-    fn count_in_row(&self, space: u32) -> usize {
-        let count = space
-            .saturating_add(LIST_GAP)
-            .checked_div(self.step())
-            .unwrap_or(1);
-        (count as usize).max(1)
-    }
-
-    /// Returns the number of rows.
-    fn count_rows(&self) -> usize {
-        let rows = self
-            .count
-            .saturating_add(self.in_row.saturating_sub(1))
-            .checked_div(self.in_row)
-            .unwrap_or(0);
-        rows.saturating_add(if self.rest > 0 { 1 } else { 0 })
+        }))
     }
 
     /// Returns the height with the distance to the legend.
     pub fn height(&self) -> u32 {
+        let rest = if self.rest > 0 { 1 } else { 0 };
+        let rows = self.grid.count_rows().saturating_add(rest);
         sentences_height(&self.lines)
-            .saturating_add(rows_height(self.count_rows()))
+            .saturating_add(rows_height(rows))
             .saturating_add(2 * SPACE)
     }
 
@@ -135,15 +108,11 @@ impl ChargeTable {
         &self,
         out: &mut String,
         sum: &ChargeSum<'_>,
-        x: u32,
-        y: u32,
+        position: Position,
     ) -> Result<(), AllocError> {
+        let Position { x, y } = position;
         push_text(out, "lb cs", x, y, sum.update)?;
-        let right = x
-            .saturating_add(self.name)
-            .saturating_add(SUM_GAP)
-            .saturating_add(self.sum);
-        open_end(out, "lb ch cs", right, y)?;
+        open_end(out, "lb ch cs", x.saturating_add(self.width), y)?;
         push_number(out, sum.amount)?;
         close_text(out)
     }
@@ -163,19 +132,11 @@ impl ChargeTable {
 
     /// Appends the table, whose first baseline is at `y`.
     pub fn push(&self, out: &mut String, scene: &Scene<'_>, y: u32) -> Result<(), AllocError> {
-        let mut y = push_lines(out, &self.lines, y)?;
-        let mut place = 0usize;
-        let mut x = MARGIN;
-        for sum in first(&scene.charge_sums, self.count) {
-            if place == self.in_row {
-                place = 0;
-                x = MARGIN;
-                y = y.saturating_add(ROW);
-            }
-            self.push_sum(out, sum, x, y)?;
-            place = place.saturating_add(1);
-            x = x.saturating_add(self.step());
+        let top = push_lines(out, &self.lines, y)?;
+        let sums = first(&scene.charge_sums, self.count);
+        for (index, sum) in sums.iter().enumerate() {
+            self.push_sum(out, sum, self.grid.position(index, top))?;
         }
-        self.push_rest(out, y.saturating_add(ROW))
+        self.push_rest(out, top.saturating_add(rows_height(self.grid.count_rows())))
     }
 }

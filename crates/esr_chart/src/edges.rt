@@ -100,7 +100,7 @@ fn half_step(column: &Column<'_>) -> u32 {
 }
 
 /// Returns the letters of the change of a charge: `500 to 400`, and the number of reads if it is not 1.
-fn change_letters(arrow: &Arrow<'_>, is_folded: bool) -> usize {
+pub fn change_letters(arrow: &Arrow<'_>, is_folded: bool) -> usize {
     let reads = arrow.reads();
     let times = if reads > 1 {
         number_letters(reads).saturating_add(8)

@@ -7,9 +7,11 @@
 #![tactic(auto)]
 
 mod bands;
+mod charge_list;
 mod charge_table;
 mod edges;
 mod elements;
+mod grid;
 mod head;
 mod layout;
 mod legend;
@@ -17,10 +19,10 @@ mod limits;
 mod reads;
 mod signs;
 mod table;
+mod tables;
 mod titles;
 
 pub use bands::push_bands;
-pub use charge_table::ChargeTable;
 pub use elements::push_text;
 pub use head::{
     Size, Sizes, open_narrow, prefix_of, push_attributes, push_background, push_head,
@@ -28,4 +30,4 @@ pub use head::{
 };
 pub use layout::{Band, Drawn, Format, Heads, Layout, MARGIN, Spacing, layout_of};
 pub use legend::{legend_height, push_legend};
-pub use table::{Table, table_width};
+pub use tables::Tables;

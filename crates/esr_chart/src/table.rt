@@ -6,6 +6,7 @@
 //! rows for each read; a narrow picture counts the other reads only. Rejected: a table for few reads, since these are all drawn.
 
 use crate::elements::{close_text, open_end, open_text, push_text};
+use crate::grid::{Grid, Position};
 use crate::layout::{MARGIN, TEXT_ROW, width_of};
 use esr_text::{first, letters_of, number_letters, push_count, push_number, push_value, wrap};
 use esr_timeline_data::{ListedRead, Scene, Writer};
@@ -31,7 +32,7 @@ pub const LIST_GAP: u32 = 40;
 pub const NARROW: u32 = 390;
 
 /// The distance of two columns.
-const COLUMN_GAP: u32 = 14;
+pub const COLUMN_GAP: u32 = 14;
 
 /// The width of a letter of a sentence, and the distance from line to line of sentences.
 const SENTENCE_LETTER: u32 = 8;
@@ -367,9 +368,9 @@ pub struct Table {
     /// The number of reads that are off in the table, and of the others.
     count: usize,
     rest: usize,
-    /// The number of the other reads in the list, and in a row of it.
+    /// The number of the other reads in the list.
     listed: usize,
-    in_row: usize,
+    grid: Grid,
 }
 
 /// Returns whether a scene has a table.
@@ -388,15 +389,6 @@ pub fn table_width(scene: &Scene<'_>) -> u32 {
     } else {
         0
     }
-}
-
-/// Returns how many reads of the list are in a row of this width.
-fn count_in_row(reads: &[ListedRead<'_>], space: u32) -> usize {
-    let width = row_width(reads, listed()).saturating_add(LIST_GAP);
-    space
-        .saturating_add(LIST_GAP)
-        .checked_div(width)
-        .unwrap_or(0) as usize
 }
 
 /// Returns the lines of some words.
@@ -444,7 +436,8 @@ impl Table {
         let form = form_of(&scene.off_reads, upper_bound, space);
         let reads = first(&scene.off_reads, form.most);
         let others = first(&scene.exact_reads, if is_narrow { 0 } else { MAX_LISTED });
-        let in_row = count_in_row(others, space);
+        let cell = row_width(others, listed());
+        let listed = if cell <= space { others.len() } else { 0 };
         let mut words = String::new(alloc);
         push_words(&mut words, scene, form)?;
         let lines = lines_of(alloc, &words, space)?;
@@ -456,8 +449,8 @@ impl Table {
             form,
             count: reads.len(),
             rest: scene.off_reads.len().saturating_sub(reads.len()),
-            listed: if in_row > 0 { others.len() } else { 0 },
-            in_row: in_row.max(1),
+            listed,
+            grid: Grid::of(listed, cell, space),
         }))
     }
 
@@ -471,20 +464,12 @@ impl Table {
         rows.saturating_add(if self.rest > 0 { 1 } else { 0 })
     }
 
-    /// Returns the number of rows of the list.
-    fn count_list_rows(&self) -> usize {
-        self.listed
-            .saturating_add(self.in_row.saturating_sub(1))
-            .checked_div(self.in_row)
-            .unwrap_or(0)
-    }
-
     /// Returns the height with the distance to the legend.
     pub fn height(&self) -> u32 {
         sentences_height(&self.lines)
             .saturating_add(rows_height(self.count_rows()))
             .saturating_add(sentences_height(&self.exact_lines))
-            .saturating_add(rows_height(self.count_list_rows()))
+            .saturating_add(rows_height(self.grid.count_rows()))
             .saturating_add(4 * SPACE)
     }
 
@@ -537,19 +522,9 @@ impl Table {
     /// Appends the list of the other reads.
     fn push_list(&self, out: &mut String, scene: &Scene<'_>, top: u32) -> Result<(), AllocError> {
         let reads = first(&scene.exact_reads, self.listed);
-        let step = row_width(reads, listed()).saturating_add(LIST_GAP);
-        let mut y = top;
-        let mut x = MARGIN;
-        let mut place = 0usize;
-        for read in reads {
+        for (index, read) in reads.iter().enumerate() {
+            let Position { x, y } = self.grid.position(index, top);
             push_row(out, reads, listed(), Some(read), (x, y))?;
-            place = place.saturating_add(1);
-            x = x.saturating_add(step);
-            if place == self.in_row {
-                place = 0;
-                x = MARGIN;
-                y = y.saturating_add(ROW);
-            }
         }
         Ok(())
     }

@@ -6,8 +6,8 @@
 use crate::fit::{Picture, Pictures};
 use crate::sentences::{Line, LineClass, push_all_lines};
 use esr_chart::{
-    ChargeTable, MARGIN, Size, Sizes, Table, legend_height, open_narrow, prefix_of,
-    push_attributes, push_background, push_bands, push_head, push_legend, push_text, table_width,
+    MARGIN, Size, Sizes, Tables, legend_height, open_narrow, prefix_of, push_attributes,
+    push_background, push_bands, push_head, push_legend, push_text,
 };
 use std::alloc::{AllocError, Global};
 
@@ -74,22 +74,14 @@ fn push_layout(
     let count = lines.len().min(100) as u32;
     let top = count.saturating_mul(SENTENCE).saturating_add(30);
     let bottom = picture.layout.stack(top).saturating_add(14);
-    let table = Table::of(alloc, &picture.scene, width)?;
-    let charges = bottom.saturating_add(table.as_ref().map_or(0, |table| table.height()));
-    let charge_table = ChargeTable::of(alloc, &picture.scene, width)?;
-    let sums = charge_table.as_ref().map_or(0, |table| table.height());
-    let legend = charges.saturating_add(sums);
+    let tables = Tables::of(alloc, &picture.scene, width)?;
+    let legend = bottom.saturating_add(tables.height());
     let height = legend.saturating_add(legend_height(&picture.scene, &picture.layout, width));
     let size = Size { width, height };
     push_background(out, size)?;
     push_lines(out, lines)?;
     push_bands(out, &picture.scene, &picture.layout)?;
-    if let Some(table) = &table {
-        table.push(out, &picture.scene, bottom)?;
-    }
-    if let Some(table) = &charge_table {
-        table.push(out, &picture.scene, charges)?;
-    }
+    tables.push(out, &picture.scene, bottom)?;
     push_keys(alloc, out, picture, width, legend)?;
     Ok(size)
 }
@@ -102,7 +94,7 @@ fn draw(
     errors: u64,
     least: u32,
 ) -> Result<Size, AllocError> {
-    let table = match table_width(&picture.scene) {
+    let table = match Tables::width(&picture.scene) {
         width if least == NARROWEST && width <= WIDEST => width,
         _ => 0,
     };

@@ -12,10 +12,10 @@ use esr_timeline_content::{
     charges_to_all, complete_notes, concerned, count_off_reads, counts_of, drawable,
     exact_reads_on, farthest_read, first_begun, greatest, keys_of, lane_at, lanes_of, mark_keys,
     mark_query_reads, marks_of, marks_on, mistakes_on, nearest_to, note_excesses, note_sides,
-    off_reads_on, reason_of_farthest, sum_of, with_drawn, with_exports,
+    off_reads_on, reason_of_farthest, sum_of, undrawn_charges, with_drawn, with_exports,
 };
 use esr_timeline_data::{
-    Arrow, ChargeSum, Farthest, Lane, ListedRead, Mark, Nearest, Order, Rest, Scene,
+    Arrow, ChargeSum, Farthest, Lane, ListedCharge, ListedRead, Mark, Nearest, Order, Rest, Scene,
 };
 use esr_trace::{Exceeded, QueryTrace, Traced, traces_of};
 use esr_wording::TxnCounts;
@@ -526,6 +526,18 @@ impl<'a> Material<'a> {
         Some(name_of_transaction(self.source.transactions, query))
     }
 
+    /// Returns the charges to the query that the timeline is about that are not drawn.
+    fn undrawn(
+        &self,
+        alloc: Global,
+        drawn: &[Arrow<'a>],
+    ) -> Result<Vec<ListedCharge<'a>>, AllocError> {
+        if self.query.is_none() {
+            return Ok(Vec::new(alloc));
+        }
+        undrawn_charges(alloc, self.source, &self.charges, drawn)
+    }
+
     /// Returns the scene of a choice.
     fn scene(
         &self,
@@ -537,6 +549,7 @@ impl<'a> Material<'a> {
         let mistakes = mistakes_on(self.source, &choice.lanes);
         let Choice { lanes, arrows, .. } = choice;
         Ok(Scene {
+            undrawn: self.undrawn(alloc, &arrows)?,
             query: self.query_name(),
             lanes,
             arrows,

@@ -8,7 +8,7 @@ use crate::source::Source;
 use esr_history::TxnId;
 use esr_items::Metric;
 use esr_report::name_of_transaction;
-use esr_timeline_data::{Arrow, ChargeSum, Lane, Relation};
+use esr_timeline_data::{Arrow, ChargeSum, Lane, ListedCharge, Relation};
 use esr_trace::QueryTrace;
 use esr_trace_events::{Change, Charge, Charges};
 use std::alloc::{AllocError, Global};
@@ -292,4 +292,45 @@ pub fn charge_sums<'a>(
         })?;
     }
     Ok(sums)
+}
+
+/// Returns whether the charge of an entry is among these charges, which are in the order of their entries.
+fn has_charge_of(drawn: &[Arrow<'_>], place: usize) -> bool {
+    let index = drawn.partition_point(|arrow| arrow.place < place);
+    drawn.get(index).is_some_and(|arrow| arrow.place == place)
+}
+
+/// Returns the indices of the charges to a query that are not among the drawn ones, the greatest charge first.
+fn undrawn_indices(
+    alloc: Global,
+    charges: &[Arrow<'_>],
+    drawn: &[Arrow<'_>],
+) -> Result<Vec<usize>, AllocError> {
+    let mut ranks = Vec::new(alloc);
+    for (index, charge) in charges.iter().enumerate() {
+        if !has_charge_of(drawn, charge.place) {
+            ranks.push((u64::MAX.saturating_sub(charge.amount), index))?;
+        }
+    }
+    ranks.sort_unstable();
+    ranks.iter().map(|rank| rank.1).collect(alloc)
+}
+
+/// Returns the charges to a query that are not among the drawn ones, the greatest first. Both are in the order of their entries.
+pub fn undrawn_charges<'a>(
+    alloc: Global,
+    source: Source<'a>,
+    charges: &[Arrow<'a>],
+    drawn: &[Arrow<'a>],
+) -> Result<Vec<ListedCharge<'a>>, AllocError> {
+    let mut undrawn = Vec::new(alloc);
+    for index in &undrawn_indices(alloc, charges, drawn)? {
+        if let Some(arrow) = charges.get(*index) {
+            undrawn.push(ListedCharge {
+                update: name_of_transaction(source.transactions, arrow.update),
+                arrow: *arrow,
+            })?;
+        }
+    }
+    Ok(undrawn)
 }

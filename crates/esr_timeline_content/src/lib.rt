@@ -17,8 +17,8 @@ mod source;
 
 pub use causes::Causes;
 pub use charges::{
-    between, charge_sums, charges_in, charges_to_all, drawable, greatest, sum_of, with_drawn,
-    with_exports,
+    between, charge_sums, charges_in, charges_to_all, drawable, greatest, sum_of, undrawn_charges,
+    with_drawn, with_exports,
 };
 pub use farthest::{farthest_read, reason_of_farthest};
 pub use lanes::{

@@ -8,6 +8,7 @@
 mod scene;
 
 pub use scene::{
-    Action, Arrow, Cause, ChargeSum, Excess, Farthest, Lane, ListedRead, Mark, Mistakes, Nearest,
-    Note, NotedWrite, Order, Reason, Relation, Rest, Scene, Writer, weight_letters,
+    Action, Arrow, Cause, ChargeSum, Excess, Farthest, Lane, ListedCharge, ListedRead, Mark,
+    Mistakes, Nearest, Note, NotedWrite, Order, Reason, Relation, Rest, Scene, Writer,
+    weight_letters,
 };

@@ -190,6 +190,11 @@ pub struct Arrow<'a> {
 }
 
 impl Arrow<'_> {
+    /// Returns the step of the event that was charged.
+    pub fn step(&self) -> u64 {
+        (self.place as u64).saturating_add(1)
+    }
+
     /// Returns how often the difference was charged: once for each read of the item.
     pub fn reads(&self) -> u64 {
         let difference = self.old.abs_diff(self.new).saturating_mul(self.weight);
@@ -308,6 +313,8 @@ pub struct Scene<'a> {
     pub exact_reads: Vec<ListedRead<'a>>,
     /// The sums of the charges to the query by update, the greatest first.
     pub charge_sums: Vec<ChargeSum<'a>>,
+    /// The charges to that query that are not drawn, the greatest first.
+    pub undrawn: Vec<ListedCharge<'a>>,
 }
 
 /// The sum of the charges of an update to the query.
@@ -315,6 +322,13 @@ pub struct Scene<'a> {
 pub struct ChargeSum<'a> {
     pub update: &'a str,
     pub amount: u64,
+}
+
+/// A charge to the query, for the list of those that are not drawn.
+#[derive(Clone, Copy)]
+pub struct ListedCharge<'a> {
+    pub update: &'a str,
+    pub arrow: Arrow<'a>,
 }
 
 /// A read of a query that has committed, for the table of its reads.
