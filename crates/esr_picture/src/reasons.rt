@@ -6,8 +6,8 @@ use esr_report::name_of_transaction;
 use esr_svg::{Entry, Row, Scene};
 use esr_text::{first, push_count, push_number, push_value};
 use esr_trace::{
-    Alternative, Audited, MAX_ALTERNATIVES, NearestPlacement, QueryTrace, ReadSum, Reason, Reasons,
-    total_of_reads,
+    Alternative, Audited, MAX_ALTERNATIVES, NearestPlacement, QueryTrace, ReadSum, Reading, Reason,
+    Reasons, is_overwritten, total_of_reads,
 };
 use std::alloc::{AllocError, Global};
 
@@ -102,18 +102,17 @@ fn push_read(
     Ok(())
 }
 
-/// Returns a cell of reads with their amounts. If it is that of the reads that are off, it says which had values that were
-/// overwritten.
+/// Returns a cell of reads with their amounts. It says which of them had values that were overwritten.
 fn reads_cell(
     alloc: Global,
     audited: &Audited<'_>,
     sums: &[ReadSum],
-    are_off: bool,
+    overwritten: &[Reading],
 ) -> Result<Vec<Entry>, AllocError> {
     let mut cell = Vec::new(alloc);
     for sum in first(sums, MAX_READS) {
         push_read(alloc, &mut cell, audited, *sum)?;
-        if are_off && sum.reading.is_overwritten {
+        if is_overwritten(overwritten, &sum.reading) {
             cell.push(entry(alloc, "overwritten", None)?)?;
         }
     }
@@ -181,8 +180,8 @@ fn push_alternative(
     alternative: &Alternative,
 ) -> Result<(), AllocError> {
     cells.push(others_cell(alloc, audited, &alternative.others)?)?;
-    cells.push(reads_cell(alloc, audited, &alternative.nearer, false)?)?;
-    cells.push(reads_cell(alloc, audited, &alternative.farther, false)?)?;
+    cells.push(reads_cell(alloc, audited, &alternative.nearer, &[])?)?;
+    cells.push(reads_cell(alloc, audited, &alternative.farther, &[])?)?;
     cells.push(result_cell(alloc, audited.finding.distance, alternative)?)?;
     Ok(())
 }
@@ -198,7 +197,7 @@ fn row_of(alloc: Global, audited: &Audited<'_>, reason: &Reason) -> Result<Row, 
     };
     cells.push(cell(alloc, name, None)?)?;
     cells.push(cell(alloc, side, None)?)?;
-    cells.push(reads_cell(alloc, audited, &reason.reads, true)?)?;
+    cells.push(reads_cell(alloc, audited, &reason.reads, &reason.overwritten)?)?;
     match &reason.alternative {
         Some(alternative) => push_alternative(alloc, &mut cells, audited, alternative)?,
         None => cells.push(cell(alloc, "in no state", None)?)?,
@@ -309,7 +308,7 @@ fn push_table_words(
     if reasons
         .reasons
         .iter()
-        .any(|reason| reason.has_overwritten())
+        .any(|reason| !reason.overwritten.is_empty())
     {
         out.push_str(
             " Overwritten: the writer of the value overwrote it before the end, so no state has it.",

@@ -21,7 +21,7 @@ pub use alternative::{Alternative, MAX_ALTERNATIVES, Subject};
 pub use part::Part;
 pub use positions::Positions;
 pub use readings::{ReadSum, Reading, total_of_reads};
-pub use reasons::{Reason, Reasons};
+pub use reasons::{Reason, Reasons, is_overwritten};
 pub use relevance::{NearestPlacement, relevant_updates};
 pub use sentences::{
     off_reads, opening_distance, push_charge_rule, push_nearest_moment, push_opening, push_strict,

@@ -17,8 +17,6 @@ pub struct Reading {
     pub value: i64,
     /// How often it was read.
     pub count: u64,
-    /// Whether the updates that had written it overwrote it before they ended.
-    pub is_overwritten: bool,
     /// Whether the query read no other value of the item.
     pub is_only: bool,
 }
@@ -46,7 +44,6 @@ impl Reading {
             item: observed.item.0,
             value: observed.value,
             count: observed.count,
-            is_overwritten: observed.overwritten,
             is_only: true,
         }
     }
@@ -54,12 +51,6 @@ impl Reading {
     /// Returns whether two readings are of the same value of the same item.
     pub fn is_same(&self, other: &Reading) -> bool {
         self.item == other.item && self.value == other.value
-    }
-
-    /// Takes in another reading of the same value.
-    fn take_in(&mut self, other: &Reading) {
-        self.count = self.count.saturating_add(other.count);
-        self.is_overwritten = self.is_overwritten && other.is_overwritten;
     }
 
     /// Returns the distance of all its reads if the item has this value.
@@ -103,7 +94,7 @@ fn add(list: &mut Vec<Reading>, mut reading: Reading) -> Result<(), AllocError> 
         && last.item == reading.item
     {
         if last.value == reading.value {
-            last.take_in(&reading);
+            last.count = last.count.saturating_add(reading.count);
             return Ok(());
         }
         last.is_only = false;

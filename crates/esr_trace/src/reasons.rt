@@ -3,7 +3,7 @@
 
 use crate::alternative::{Alternative, Alternatives, MAX_ALTERNATIVES};
 use crate::positions::Positions;
-use crate::readings::{ReadSum, Readings, total_of_reads};
+use crate::readings::{ReadSum, Reading, Readings, total_of_reads};
 use crate::relevance::{ExplainedRead, NearestPlacement};
 use crate::subject::Audited;
 use crate::trace::QueryTrace;
@@ -17,12 +17,19 @@ use std::alloc::{AllocError, Global};
 const OVERWRITTEN: &str =
     " It read a value that its writer overwrote before the end, so no state has that value.";
 
+/// Returns whether a reading is one of those with a value that was overwritten.
+pub fn is_overwritten(overwritten: &[Reading], reading: &Reading) -> bool {
+    overwritten.iter().any(|other| other.is_same(reading))
+}
+
 /// An update that explains reads that are off.
 #[derive(Drop)]
 pub struct Reason {
     pub update: TxnId,
     /// These reads with their distances, the farthest first.
     pub reads: Vec<ReadSum>,
+    /// Those of them with a value that its writer overwrote: they are exact in no placement.
+    pub overwritten: Vec<Reading>,
     /// The placement with the update on its other side, if it committed before the query did.
     pub alternative: Option<Alternative>,
 }
@@ -31,11 +38,6 @@ impl Reason {
     /// Returns the distance of the reads.
     pub fn distance(&self) -> u64 {
         total_of_reads(&self.reads)
-    }
-
-    /// Returns whether a read of it had a value that its writer overwrote.
-    pub fn has_overwritten(&self) -> bool {
-        self.reads.iter().any(|sum| sum.reading.is_overwritten)
     }
 
     /// Appends a sentence on why the update is on its side of the nearest placement, and one on values that were overwritten.
@@ -51,8 +53,16 @@ impl Reason {
             )?,
             None => push_absence(out, audited, self.update, query)?,
         }
-        if self.alternative.is_some() && self.has_overwritten() {
+        if self.alternative.is_some() && !self.overwritten.is_empty() {
             out.push_str(OVERWRITTEN)?;
+        }
+        Ok(())
+    }
+
+    /// Notes that the writer of the value of a read overwrote it.
+    fn note_overwritten(&mut self, reading: Reading) -> Result<(), AllocError> {
+        if !is_overwritten(&self.overwritten, &reading) {
+            self.overwritten.push(reading)?;
         }
         Ok(())
     }
@@ -62,6 +72,9 @@ impl Reason {
         let Some(reading) = readings.find(read.item, read.value) else {
             return Ok(());
         };
+        if read.is_overwritten {
+            self.note_overwritten(reading)?;
+        }
         let place = self
             .reads
             .iter()
@@ -124,6 +137,7 @@ fn empty_reason(alloc: Global, update: TxnId) -> Reason {
     Reason {
         update,
         reads: Vec::new(alloc),
+        overwritten: Vec::new(alloc),
         alternative: None,
     }
 }

@@ -36,6 +36,8 @@ pub struct ExplainedRead {
     pub count: u64,
     /// The distance of all of them.
     pub distance: u64,
+    /// Whether the update that had written the value overwrote it before its end.
+    pub is_overwritten: bool,
 }
 
 /// The updates of a problem, with their positions.
@@ -228,6 +230,7 @@ impl NearestPlacement {
                     value: observed.value,
                     count: observed.count,
                     distance: distance.saturating_mul(observed.count),
+                    is_overwritten: observed.overwritten,
                 })?;
             }
         }
