@@ -212,22 +212,42 @@ fn count_later(scene: &Scene<'_>) -> usize {
         .count()
 }
 
+/// How a sentence names a number of updates, and one of them.
+#[derive(Clone, Copy)]
+struct Wording {
+    updates: &'static str,
+    one: &'static str,
+}
+
+/// Returns how a sentence names this number of updates, if there are any.
+fn wording_of(count: usize) -> Option<Wording> {
+    match count {
+        0 => None,
+        1 => Some(Wording {
+            updates: "update",
+            one: "it",
+        }),
+        _ => Some(Wording {
+            updates: "updates",
+            one: "any one of them",
+        }),
+    }
+}
+
 /// Adds the sentence on why the updates after the line are there, if any are drawn.
 fn push_later(
     alloc: Global,
     sentences: &mut Vec<String>,
     scene: &Scene<'_>,
 ) -> Result<(), AllocError> {
-    let (updates, they) = match count_later(scene) {
-        0 => return Ok(()),
-        1 => ("update", "it"),
-        _ => ("updates", "any of them"),
+    let Some(Wording { updates, one }) = wording_of(count_later(scene)) else {
+        return Ok(());
     };
     let query = scene.query_name;
     let mut words = String::new(alloc);
     write!(
         words,
-        "The {updates} after the line committed before {query} too: with {they} before the line, {query} would be off by as much or more."
+        "The {updates} after the line committed before {query} too: with {one} before the line, {query} would be off by as much or more."
     )?;
     sentences.push(words)?;
     Ok(())
@@ -242,17 +262,14 @@ fn push_earlier(
 ) -> Result<(), AllocError> {
     let count = scene.updates.len().saturating_sub(count_later(scene));
     let is_strict = scene.updates.iter().any(|update| update.must);
-    let (updates, them) = match count {
-        0 => return Ok(()),
-        _ if is_strict => return Ok(()),
-        1 => ("update", "it"),
-        _ => ("updates", "any of them"),
+    let Some(Wording { updates, one }) = wording_of(count).filter(|_| !is_strict) else {
+        return Ok(());
     };
     let query = scene.query_name;
     let mut words = String::new(alloc);
     write!(
         words,
-        "The {updates} before the line must be there: without {them}, {query} would be off by more."
+        "The {updates} before the line must be there: without {one}, {query} would be off by more."
     )?;
     sentences.push(words)?;
     Ok(())
