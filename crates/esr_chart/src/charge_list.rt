@@ -17,7 +17,7 @@ use esr_timeline_data::{ListedCharge, Scene};
 use std::alloc::{AllocError, Global};
 
 /// The maximum number of charges in the list.
-const MAX_CHARGES: usize = 150;
+const MAX_CHARGES: usize = 300;
 
 /// A column of the list.
 #[derive(Clone, Copy, PartialEq, Eq)]

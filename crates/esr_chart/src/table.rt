@@ -16,7 +16,7 @@ use std::alloc::{AllocError, Global};
 const FEW_READS: usize = 3;
 
 /// The maximum number of reads in a table, in one of a narrow picture, and in one with two rows for each.
-const MAX_READS: usize = 40;
+const MAX_READS: usize = 60;
 
 const MAX_NARROW_READS: usize = 24;
 
@@ -146,7 +146,7 @@ fn heading_of(field: Field) -> &'static str {
         Field::Writer | Field::WriterName => "written by",
         Field::State => "state",
         Field::StateWriter => "written by",
-        Field::Side => "read",
+        Field::Side => "timing",
         Field::Distance => "off by",
     }
 }
