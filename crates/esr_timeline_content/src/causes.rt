@@ -136,14 +136,6 @@ impl Causes {
         }
     }
 
-    /// Returns whether an event of an update before the placement writes the value that the item has there.
-    fn writes_nearest(&self, update: TxnId, event: Event) -> bool {
-        let Event::Write { item, value, .. } = event else {
-            return false;
-        };
-        self.has_before(update) && self.placement.value(item.0) == Some(value)
-    }
-
     /// Returns the distance of the reads that a charge explains, or 0.
     pub fn explained(&self, update: TxnId, item: ItemId) -> u64 {
         if self.has_before(update) {
@@ -191,39 +183,36 @@ impl Causes {
 
     /// Returns how a charge for an event explains reads.
     pub fn relation(&self, update: TxnId, event: Event) -> Relation {
-        if self.writes_nearest(update, event) {
-            Relation::WritesNearest
-        } else if self.has_before(update) || matches!(event, Event::Read { .. }) {
-            Relation::SameItem
+        if self.has_before(update) {
+            Relation::Change
+        } else if matches!(event, Event::Read { .. }) {
+            Relation::Read
         } else {
-            Relation::SameWriter
+            Relation::Writer
         }
     }
 }
 
-/// Returns the rank of a relation, the closest first.
-fn rank_of(relation: Relation) -> u8 {
-    match relation {
-        Relation::WritesNearest => 0,
-        Relation::SameItem => 1,
-        Relation::SameWriter => 2,
+/// Returns the rank of a charge among those that explain as much, and its order among those with the same rank: the first change of
+/// an item is first, and else the greatest amount.
+fn rank_of(arrow: &Arrow<'_>) -> (u8, u64) {
+    let greatest = u64::MAX.saturating_sub(arrow.amount);
+    match arrow.relation {
+        _ if arrow.explained == 0 => (0, greatest),
+        Relation::Change => (0, arrow.place as u64),
+        Relation::Read => (1, greatest),
+        Relation::Writer => (2, greatest),
     }
 }
 
 /// Returns the indices of some charges in the order of the distances that they explain, the greatest first; of those that
-/// explain the same, the write of the value in the nearest placement first, then those for the item, then the greatest
-/// amounts.
+/// explain the same, the changes of an item first, in their order, then the charges for reads, then the greatest amounts.
 fn sorted(alloc: Global, arrows: &[Arrow<'_>]) -> Result<Vec<usize>, AllocError> {
     let mut ranks = Vec::new(alloc);
     for (index, arrow) in arrows.iter().enumerate() {
         let explained = u64::MAX.saturating_sub(arrow.explained);
-        let relation = if arrow.explained == 0 {
-            0
-        } else {
-            rank_of(arrow.relation)
-        };
-        let amount = u64::MAX.saturating_sub(arrow.amount);
-        ranks.push((explained, relation, amount, index))?;
+        let (rank, order) = rank_of(arrow);
+        ranks.push((explained, rank, order, index))?;
     }
     ranks.sort_unstable();
     ranks.iter().map(|rank| rank.3).collect(alloc)

@@ -44,7 +44,7 @@ fn arrow_of<'a>(
         old,
         new,
         explained: causes.explained(charge.update, item),
-        relation: entry.map_or(Relation::SameItem, |entry| {
+        relation: entry.map_or(Relation::Writer, |entry| {
             causes.relation(charge.update, entry.event)
         }),
         group: causes.group(charge.update, item),

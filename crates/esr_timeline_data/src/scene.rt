@@ -205,12 +205,12 @@ impl Arrow<'_> {
 /// The relation of a charge to the reads that it explains.
 #[derive(Clone, Copy, PartialEq, Eq)]
 pub enum Relation {
-    /// It is for a write of the value that the item has in the nearest placement.
-    WritesNearest,
-    /// It is for an earlier write of the item, or for the read itself.
-    SameItem,
-    /// It is for a write by the update that wrote the value that was read.
-    SameWriter,
+    /// The reads came too early: an update before the nearest placement changed the item.
+    Change,
+    /// The reads came too late, and the charge is for such a read.
+    Read,
+    /// The reads came too late, and the charge is for a write by the update that had written the value, or that it follows.
+    Writer,
 }
 
 /// Which charges are drawn first if there is no space for all.
