@@ -24,6 +24,7 @@ impl EmbeddedEngine {
         ensures finding { IfOk result (IsFindingOf weighted self.old q.0) }
         ensures not_committed_query { IsErrOf result AuditError.NotACommittedQuery
             ↔ (is_committed_query self.old q.0 ≡ false) }
+        ensures no_worker_error { ¬ IsErrOf result AuditError.WorkersOutOfRange }
     {
         if self.index.extend(self.machine.history()).is_err() {
             return audit_query(alloc, self.machine.history(), q); // the index may wait, a refusal may not
