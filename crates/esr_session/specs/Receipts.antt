@@ -114,3 +114,7 @@ is_blocked (Refused why) = is_block why
 abbrev pub AreBlocked : DistanceFunction → List ℤ → List ℕ → Event → List Receipt → Type 0
 AreBlocked d opening weights event rs =
     All (λ r. (r.event ≡ event) × IsReceipt d opening weights r × (is_blocked r.reply ≡ true)) rs
+
+-- receipts of which the last is that of a blocked event
+abbrev pub EndsBlocked : List Receipt → Type 0
+EndsBlocked rs = (early : List Receipt) × (r : Receipt) × (rs ≡ early ++ r ∷ []) × (is_blocked r.reply ≡ true)

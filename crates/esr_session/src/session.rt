@@ -2,9 +2,9 @@
 //!
 //! A session knows nothing of its engine between two calls, since others call it too; so its contract speaks of the
 //! receipt that a call leaves, and `step_on`, under the lock, says the rest.
-ghost use Rattle.std.specs.Prelude.{◌≡◌, ◌+◌, ◌<◌, ◌≤◌, List, [], ◌∷◌, ◌++◌, true, length, All, None, IfOk, OnErr, IfErr};
+ghost use Rattle.std.specs.Prelude.{◌≡◌, ◌+◌, ◌<◌, ◌≤◌, ◌⊎◌, List, [], ◌∷◌, ◌++◌, true, length, All, None, IfOk, OnErr, IfErr};
 ghost use Rattle.esr_base.specs.declared.limits.TheConstants.{MAX_ENTRIES};
-ghost use Rattle.esr_session.specs.Receipts.{IsReceipt, AreBlocked, is_blocked};
+ghost use Rattle.esr_session.specs.Receipts.{IsReceipt, AreBlocked, EndsBlocked, is_blocked};
 ghost use Rattle.esr_session.specs.declared.receipt.Receipt.{Receipt};
 
 use crate::engine_name::Naming;
@@ -133,6 +133,7 @@ impl<M: Metric + Drop, N: Naming> Session<M, N> {
             × All (IsReceipt M.distance_by N.opening N.weights) more × IfOk result (λ n. n ≡ length more) }
         ensures source { (first : A) → A.Became first self.old source.old → A.Became first self.new source.new }
         ensures none { IfOk result (λ n. 1 ≤ upper_bound → n ≡ 0 → A.next source.old ≡ None) }
+        ensures end { IfOk result (λ n. n < upper_bound → (A.next source.new ≡ None) ⊎ EndsBlocked self.new) }
     {
         let mut locked = self.shared.lock(rt);
         step_several(&mut *locked, &mut self.pocket, source, upper_bound)

@@ -5,8 +5,8 @@
 //! sessions wait meanwhile. It ends early at a blocked event, which only a step of another session can unblock. A list
 //! of events does not suffice, since a later event names the transaction that an earlier one began. So the source is
 //! asked for each event after the reply to the one before it.
-ghost use Rattle.std.specs.Prelude.{◌≡◌, ◌≤◌, ◌++◌, List, ℕ, None, All, length, IfOk};
-ghost use Rattle.esr_session.specs.Receipts.{IsReceipt};
+ghost use Rattle.std.specs.Prelude.{◌≡◌, ◌<◌, ◌≤◌, ◌⊎◌, ◌++◌, List, ℕ, None, All, length, IfOk};
+ghost use Rattle.esr_session.specs.Receipts.{IsReceipt, EndsBlocked};
 ghost use Rattle.esr_session.specs.declared.receipt.Receipt.{Receipt};
 
 use crate::engine_name::Naming;
@@ -49,6 +49,7 @@ pub(crate) fn step_several<M: Metric, N: Naming, A: EventSource>(
         × All (IsReceipt M.distance_by N.opening N.weights) more × IfOk result (λ n. n ≡ length more) }
     ensures source { (first : A) → A.Became first pocket.old source.old → A.Became first pocket.new source.new }
     ensures none { IfOk result (λ n. 1 ≤ upper_bound → n ≡ 0 → A.next source.old ≡ None) }
+    ensures end { IfOk result (λ n. n < upper_bound → (A.next source.new ≡ None) ⊎ EndsBlocked pocket.new) }
 {
     for count in 0..upper_bound {
         let Some(event) = source.next() else {
