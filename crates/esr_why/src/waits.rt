@@ -5,7 +5,7 @@
 //! met before, and a walk that returns to its start is a cycle. The walk is a draft: its result is tested before it
 //! is reported.
 
-ghost use Rattle.std.specs.Prelude.{◌≡◌, ◌++◌, ◌∷◌, [], List, Some, All, IsTrue, IfOk, IfSome, length, map};
+ghost use Rattle.std.specs.Prelude.{◌≡◌, ◌<◌, ◌++◌, ◌∷◌, [], List, None, Some, All, IsTrue, IfOk, IfSome, length, map};
 ghost use Rattle.esr_history.specs.BackLinks.{last_place, txn_in};
 ghost use Rattle.esr_history.specs.declared.event.Entry.{Entry};
 ghost use Rattle.esr_why.specs.Waits.{AreLastEntries, BeginsWith, IsCycle, IsWaiting, turned};
@@ -76,8 +76,10 @@ impl LastEntries {
 
     /// Returns the place of the last entry of a transaction.
     fn place(&self, txn: TxnId) -> Option<usize>
-        ensures { (es : List Entry) → AreLastEntries es self.now.places.items
+        ensures some { (es : List Entry) → AreLastEntries es self.now.places.items
             → IfSome result (λ place. last_place txn_in txn.0 es ≡ Some place) }
+        ensures none { (es : List Entry) → AreLastEntries es self.now.places.items → txn.0 < length self.now.places.items
+            → result ≡ None → last_place txn_in txn.0 es ≡ None }
     {
         let at = txn.0 as usize;
         if at < self.places.len() {
@@ -91,6 +93,8 @@ impl LastEntries {
     pub fn wait(&self, log: &Log, txn: TxnId) -> Option<Wait>
         ensures wait { AreLastEntries log.now.entries self.now.places.items → IfSome result (IsWaiting log.now.entries) }
         ensures txn { IfSome result (λ w. w.txn ≡ txn) }
+        ensures none { AreLastEntries log.now.entries self.now.places.items → txn.0 < length self.now.places.items
+            → result ≡ None → (w : Wait) → w.txn ≡ txn → ¬ IsWaiting log.now.entries w }
     {
         let place = self.place(txn)?;
         let entry = log.get(place)?;
