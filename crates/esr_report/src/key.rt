@@ -57,11 +57,11 @@ impl BuildHasher for SeededHash {
 }
 
 impl Key {
-    /// Returns the slot of the key in a cache of 4,096 slots.
+    /// Returns the slot of the key in a cache of 16,384 slots.
     #[inline(always)]
     pub fn slot(self) -> usize {
         let mixed = self.low ^ self.high.rotate_left(32);
-        (mixed.wrapping_mul(0x9e37_79b9_7f4a_7c15) >> 52) as usize
+        (mixed.wrapping_mul(0x9e37_79b9_7f4a_7c15) >> 50) as usize
     }
 }
 

@@ -4,7 +4,7 @@
 //! An entry takes 48 bytes: the key and the name, which has at most 16 bytes. No line of a script contains a longer name;
 //! `bind` returns `AllocError` for one.
 //!
-//! Most look-ups need no search of the hash table: a direct-mapped cache, indexed by a hash of 12 bits of the key (its
+//! Most look-ups need no search of the hash table: a direct-mapped cache, indexed by a hash of 14 bits of the key (its
 //! *slot*), has the position of the name that was bound last with that slot. The contracts do not mention the cache: a wrong
 //! or missing position only costs time.
 //!
@@ -33,7 +33,7 @@ pub trait NamesByPosition {
 }
 
 /// The number of slots of the cache.
-const CACHE_SLOTS: usize = 4096;
+const CACHE_SLOTS: usize = 16_384;
 
 /// A name, which is stored in the table itself: it has at most 16 bytes.
 type Name = ArrayString<16>;
