@@ -3,7 +3,7 @@
 use crate::elements::push_rect;
 use crate::layout::{Band, charges_at_or_before, charges_between};
 use esr_history::MAX_LIMIT;
-use esr_timeline_data::{Arrow, Lane, Scene};
+use esr_timeline_data::{Lane, Scene};
 use std::alloc::AllocError;
 
 /// The height of a bar.
@@ -52,37 +52,26 @@ fn push_part(out: &mut String, part: Part, top: u32) -> Result<(), AllocError> {
     )
 }
 
-/// Returns the sum of the charges to the query of a lane.
-fn charged(arrows: &[Arrow<'_>], lane: usize) -> u64 {
-    let mut sum = 0u64;
-    for arrow in arrows {
-        if arrow.to == lane {
-            sum = sum.saturating_add(arrow.amount);
-        }
-    }
-    sum
-}
-
 /// Appends the parts of a bar in a band.
 fn push_parts(
     out: &mut String,
     scene: &Scene<'_>,
     band: &Band<'_>,
     number: usize,
-    limit: u64,
+    lane: &Lane<'_>,
     top: u32,
 ) -> Result<(), AllocError> {
     let span = band.span(number);
     let earlier = charges_between(&scene.all_charges, 0, band.first_place());
-    let before = charged(earlier, number);
+    let before = lane.sum_of(number, earlier);
     let mut part = Part {
         start: span.start,
         end: span.start,
-        tenths: tenths_of(before, limit),
+        tenths: tenths_of(before, lane.limit),
     };
     for column in &band.columns {
         let arrows = charges_at_or_before(&scene.all_charges, column.mark.place);
-        let tenths = tenths_of(charged(arrows, number), limit);
+        let tenths = tenths_of(lane.sum_of(number, arrows), lane.limit);
         if tenths != part.tenths && column.x >= span.start && column.x <= span.end {
             part.end = column.x;
             push_part(out, part, top)?;
@@ -112,7 +101,7 @@ pub fn push_limit(
     }
     let span = band.span(number);
     let top = band.lane_top(number).saturating_add(span.bar_row());
-    push_parts(out, scene, band, number, lane.limit, top)?;
+    push_parts(out, scene, band, number, lane, top)?;
     let width = span.end.saturating_sub(span.start);
     push_rect(out, "lf", span.start, top, width, HEIGHT)
 }

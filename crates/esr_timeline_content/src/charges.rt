@@ -161,17 +161,6 @@ pub fn drawable<'a>(alloc: Global, arrows: &[Arrow<'a>]) -> Result<Vec<Arrow<'a>
     Ok(kept)
 }
 
-/// Returns the sum of the charges by an update.
-fn sum_by(arrows: &[Arrow<'_>], update: TxnId) -> u64 {
-    let mut sum = 0u64;
-    for arrow in arrows {
-        if arrow.update == update {
-            sum = sum.saturating_add(arrow.amount);
-        }
-    }
-    sum
-}
-
 /// Returns the lanes. The lane of an update has the sum of its charges.
 pub fn with_exports<'a>(
     alloc: Global,
@@ -179,25 +168,14 @@ pub fn with_exports<'a>(
     arrows: &[Arrow<'a>],
 ) -> Result<Vec<Lane<'a>>, AllocError> {
     let mut noted = Vec::with_capacity(alloc, lanes.len())?;
-    for lane in lanes {
+    for (number, lane) in lanes.iter().enumerate() {
         let mut lane = *lane;
         if !lane.is_query() {
-            lane.charged = sum_by(arrows, lane.txn);
+            lane.charged = lane.sum_of(number, arrows);
         }
         noted.push(lane)?;
     }
     Ok(noted)
-}
-
-/// Returns the sum of the charges to the query of a lane.
-fn sum_to(arrows: &[Arrow<'_>], lane: usize) -> u64 {
-    let mut sum = 0u64;
-    for arrow in arrows {
-        if arrow.to == lane {
-            sum = sum.saturating_add(arrow.amount);
-        }
-    }
-    sum
 }
 
 /// Returns the lanes with the sums of the charges that are drawn.
@@ -209,11 +187,7 @@ pub fn with_drawn<'a>(
     let mut noted = Vec::with_capacity(alloc, lanes.len())?;
     for (number, lane) in lanes.iter().enumerate() {
         let mut lane = *lane;
-        lane.drawn = if lane.is_query() {
-            sum_to(arrows, number)
-        } else {
-            sum_by(arrows, lane.txn)
-        };
+        lane.drawn = lane.sum_of(number, arrows);
         noted.push(lane)?;
     }
     Ok(noted)

@@ -32,6 +32,22 @@ impl Lane<'_> {
         self.kind != TxnKind::Update
     }
 
+    /// Returns the sum of the charges of this lane, which has this number: those to a query, or those by an update.
+    pub fn sum_of(&self, number: usize, arrows: &[Arrow<'_>]) -> u64 {
+        let mut sum = 0u64;
+        for arrow in arrows {
+            let is_of_lane = if self.is_query() {
+                arrow.to == number
+            } else {
+                arrow.update == self.txn
+            };
+            if is_of_lane {
+                sum = sum.saturating_add(arrow.amount);
+            }
+        }
+        sum
+    }
+
     /// Returns whether the head says how much of the charges is drawn: if that is less, and there is space.
     pub fn has_drawn_note(&self) -> bool {
         let letters = number_letters(self.charged).saturating_add(number_letters(self.drawn));
