@@ -6,11 +6,10 @@
 
 use crate::edges::change_letters;
 use crate::elements::{close_text, open_end, open_text};
-use crate::grid::{Grid, Position};
+use crate::grid::Position;
 use crate::layout::{MARGIN, width_of};
-use crate::table::{
-    COLUMN_GAP, NARROW, ROW, SPACE, lines_of, push_lines, rows_height, sentences_height,
-};
+use crate::listing::{Cells, Listing, Omitted};
+use crate::table::{COLUMN_GAP, NARROW};
 use crate::titles::push_change;
 use esr_text::{first, number_letters, push_count, push_number};
 use esr_timeline_data::{ListedCharge, Scene};
@@ -125,17 +124,28 @@ fn open_field(
     }
 }
 
+/// Appends a charge, whose columns are as wide as these charges need.
+fn push_charge(
+    out: &mut String,
+    charges: &[ListedCharge<'_>],
+    charge: &ListedCharge<'_>,
+    position: Position,
+) -> Result<(), AllocError> {
+    let mut position = position;
+    for field in &FIELDS {
+        let width = column_width(charges, *field);
+        open_field(out, *field, width, position)?;
+        push_field(out, charge, *field)?;
+        close_text(out)?;
+        position.x = position.x.saturating_add(width).saturating_add(COLUMN_GAP);
+    }
+    Ok(())
+}
+
 /// The list of a scene.
 #[derive(Drop)]
 pub struct ChargeList {
-    /// The sentence above it.
-    lines: Vec<String>,
-    /// The number of charges in it.
-    count: usize,
-    grid: Grid,
-    /// The number of the other charges, and their sum.
-    rest: usize,
-    rest_amount: u64,
+    listing: Listing,
 }
 
 impl ChargeList {
@@ -149,67 +159,33 @@ impl ChargeList {
             return Ok(None);
         }
         let charges = first(&scene.undrawn, MAX_CHARGES);
-        let space = width.saturating_sub(2 * MARGIN);
+        let cells = Cells {
+            count: charges.len(),
+            width: cell_width(charges),
+        };
+        let omitted = Omitted {
+            count: scene.undrawn.len().saturating_sub(charges.len()),
+            amount: total_of(&scene.undrawn).saturating_sub(total_of(charges)),
+        };
         let mut words = String::new(alloc);
         push_words(&mut words, scene)?;
         Ok(Some(ChargeList {
-            lines: lines_of(alloc, &words, space)?,
-            count: charges.len(),
-            grid: Grid::of(charges.len(), cell_width(charges), space),
-            rest: scene.undrawn.len().saturating_sub(charges.len()),
-            rest_amount: total_of(&scene.undrawn).saturating_sub(total_of(charges)),
+            listing: Listing::of(alloc, &words, cells, omitted, "lb cl", width)?,
         }))
     }
 
     /// Returns the height with the distance to the legend.
     pub fn height(&self) -> u32 {
-        let rest = if self.rest > 0 { 1 } else { 0 };
-        let rows = self.grid.count_rows().saturating_add(rest);
-        sentences_height(&self.lines)
-            .saturating_add(rows_height(rows))
-            .saturating_add(2 * SPACE)
-    }
-
-    /// Appends a charge.
-    fn push_charge(
-        &self,
-        out: &mut String,
-        charges: &[ListedCharge<'_>],
-        charge: &ListedCharge<'_>,
-        position: Position,
-    ) -> Result<(), AllocError> {
-        let mut position = position;
-        for field in &FIELDS {
-            let width = column_width(charges, *field);
-            open_field(out, *field, width, position)?;
-            push_field(out, charge, *field)?;
-            close_text(out)?;
-            position.x = position.x.saturating_add(width).saturating_add(COLUMN_GAP);
-        }
-        Ok(())
-    }
-
-    /// Appends the number and the sum of the other charges.
-    fn push_rest(&self, out: &mut String, y: u32) -> Result<(), AllocError> {
-        if self.rest == 0 {
-            return Ok(());
-        }
-        open_text(out, "lb cl", MARGIN, y)?;
-        out.push_str("and ")?;
-        push_number(out, self.rest as u64)?;
-        out.push_str(" more, together ")?;
-        push_number(out, self.rest_amount)?;
-        close_text(out)
+        self.listing.height()
     }
 
     /// Appends the list, whose first baseline is at `y`.
     pub fn push(&self, out: &mut String, scene: &Scene<'_>, y: u32) -> Result<(), AllocError> {
-        let top = push_lines(out, &self.lines, y)?;
-        let charges = first(&scene.undrawn, self.count);
+        let top = self.listing.push_words(out, y)?;
+        let charges = first(&scene.undrawn, self.listing.count);
         for (index, charge) in charges.iter().enumerate() {
-            let position = self.grid.position(index, top);
-            self.push_charge(out, charges, charge, position)?;
+            push_charge(out, charges, charge, self.listing.position(index, top))?;
         }
-        self.push_rest(out, top.saturating_add(rows_height(self.grid.count_rows())))
+        self.listing.push_omitted(out, top)
     }
 }

@@ -1,10 +1,11 @@
 //! The table of the charges of a query by update, below the drawing, if that does not have all charges: the updates with the sums
 //! of their charges next to one another, the greatest first.
 
-use crate::elements::{close_text, open_end, open_text, push_text};
-use crate::grid::{Grid, Position};
-use crate::layout::{MARGIN, width_of};
-use crate::table::{NARROW, SPACE, lines_of, push_lines, rows_height, sentences_height};
+use crate::elements::{close_text, open_end, push_text};
+use crate::grid::Position;
+use crate::layout::width_of;
+use crate::listing::{Cells, Listing, Omitted};
+use crate::table::NARROW;
 use esr_text::{first, number_letters, push_number};
 use esr_timeline_data::{ChargeSum, Scene};
 use std::alloc::{AllocError, Global};
@@ -20,16 +21,9 @@ const SUM_GAP: u32 = 14;
 /// The table of the charges of a scene.
 #[derive(Drop)]
 pub struct ChargeTable {
-    /// The sentence above it.
-    lines: Vec<String>,
-    /// The number of updates in it.
-    count: usize,
-    grid: Grid,
+    listing: Listing,
     /// The width of a name and a sum.
     width: u32,
-    /// The number of the other updates, and their charges.
-    rest: usize,
-    rest_amount: u64,
 }
 
 /// Returns the total of some sums.
@@ -64,6 +58,20 @@ fn push_words(out: &mut String, scene: &Scene<'_>) -> Result<(), AllocError> {
     out.push('.')
 }
 
+/// Appends an update with its sum, of which both together have this width.
+fn push_sum(
+    out: &mut String,
+    sum: &ChargeSum<'_>,
+    width: u32,
+    position: Position,
+) -> Result<(), AllocError> {
+    let Position { x, y } = position;
+    push_text(out, "lb cs", x, y, sum.update)?;
+    open_end(out, "lb ch cs", x.saturating_add(width), y)?;
+    push_number(out, sum.amount)?;
+    close_text(out)
+}
+
 impl ChargeTable {
     /// Returns the table of a scene in a picture of this width, if some charges are not drawn.
     pub fn of(
@@ -80,63 +88,34 @@ impl ChargeTable {
             MAX_SUMS
         };
         let sums = first(&scene.charge_sums, most);
-        let space = width.saturating_sub(2 * MARGIN);
+        let cells = Cells {
+            count: sums.len(),
+            width: cell_width(sums),
+        };
+        let omitted = Omitted {
+            count: scene.charge_sums.len().saturating_sub(sums.len()),
+            amount: total_of(&scene.charge_sums).saturating_sub(total_of(sums)),
+        };
         let mut words = String::new(alloc);
         push_words(&mut words, scene)?;
-        let width = cell_width(sums);
         Ok(Some(ChargeTable {
-            lines: lines_of(alloc, &words, space)?,
-            count: sums.len(),
-            grid: Grid::of(sums.len(), width, space),
-            width,
-            rest: scene.charge_sums.len().saturating_sub(sums.len()),
-            rest_amount: total_of(&scene.charge_sums).saturating_sub(total_of(sums)),
+            listing: Listing::of(alloc, &words, cells, omitted, "lb cs", width)?,
+            width: cells.width,
         }))
     }
 
     /// Returns the height with the distance to the legend.
     pub fn height(&self) -> u32 {
-        let rest = if self.rest > 0 { 1 } else { 0 };
-        let rows = self.grid.count_rows().saturating_add(rest);
-        sentences_height(&self.lines)
-            .saturating_add(rows_height(rows))
-            .saturating_add(2 * SPACE)
-    }
-
-    /// Appends an update with its sum.
-    fn push_sum(
-        &self,
-        out: &mut String,
-        sum: &ChargeSum<'_>,
-        position: Position,
-    ) -> Result<(), AllocError> {
-        let Position { x, y } = position;
-        push_text(out, "lb cs", x, y, sum.update)?;
-        open_end(out, "lb ch cs", x.saturating_add(self.width), y)?;
-        push_number(out, sum.amount)?;
-        close_text(out)
-    }
-
-    /// Appends the number and the charges of the other updates.
-    fn push_rest(&self, out: &mut String, y: u32) -> Result<(), AllocError> {
-        if self.rest == 0 {
-            return Ok(());
-        }
-        open_text(out, "lb cs", MARGIN, y)?;
-        out.push_str("and ")?;
-        push_number(out, self.rest as u64)?;
-        out.push_str(" more, together ")?;
-        push_number(out, self.rest_amount)?;
-        close_text(out)
+        self.listing.height()
     }
 
     /// Appends the table, whose first baseline is at `y`.
     pub fn push(&self, out: &mut String, scene: &Scene<'_>, y: u32) -> Result<(), AllocError> {
-        let top = push_lines(out, &self.lines, y)?;
-        let sums = first(&scene.charge_sums, self.count);
+        let top = self.listing.push_words(out, y)?;
+        let sums = first(&scene.charge_sums, self.listing.count);
         for (index, sum) in sums.iter().enumerate() {
-            self.push_sum(out, sum, self.grid.position(index, top))?;
+            push_sum(out, sum, self.width, self.listing.position(index, top))?;
         }
-        self.push_rest(out, top.saturating_add(rows_height(self.grid.count_rows())))
+        self.listing.push_omitted(out, top)
     }
 }

@@ -16,6 +16,7 @@ mod head;
 mod layout;
 mod legend;
 mod limits;
+mod listing;
 mod reads;
 mod signs;
 mod table;
