@@ -342,8 +342,8 @@ fn push_words(out: &mut String, scene: &Scene<'_>, form: Form) -> Result<(), All
     Ok(())
 }
 
-/// Appends how many reads are as in the nearest state.
-fn push_exact_words(out: &mut String, scene: &Scene<'_>) -> Result<(), AllocError> {
+/// Appends how many reads are as in the nearest state, and what the list of them has, if there is one.
+fn push_exact_words(out: &mut String, scene: &Scene<'_>, has_list: bool) -> Result<(), AllocError> {
     let query = scene.nearest.map_or("", |nearest| nearest.query);
     let count = scene.exact_reads.len() as u64;
     if count == 0 {
@@ -352,9 +352,14 @@ fn push_exact_words(out: &mut String, scene: &Scene<'_>) -> Result<(), AllocErro
     push_count(out, count, " read of ", " reads of ")?;
     out.push_str(query)?;
     out.push_str(if count == 1 {
-        " is as in the nearest state."
+        " is as in the nearest state"
     } else {
-        " are as in the nearest state."
+        " are as in the nearest state"
+    })?;
+    out.push_str(if has_list {
+        ": step, item, value, writer of the value."
+    } else {
+        "."
     })
 }
 
@@ -442,7 +447,7 @@ impl Table {
         push_words(&mut words, scene, form)?;
         let lines = lines_of(alloc, &words, space)?;
         words.clear();
-        push_exact_words(&mut words, scene)?;
+        push_exact_words(&mut words, scene, listed > 0)?;
         Ok(Some(Table {
             lines,
             exact_lines: lines_of(alloc, &words, space)?,
