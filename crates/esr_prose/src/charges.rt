@@ -6,7 +6,7 @@ use crate::subject::Subject;
 use esr_history::{MAX_LIMIT, TxnId};
 use esr_items::ItemId;
 use esr_text::{first, push_count, push_number, push_value};
-use esr_trace::{Cause, ChargeGroup, QueryTrace, Sum};
+use esr_trace::{Cause, ChargeGroup, QueryTrace};
 use esr_wording::{MAX_NAMES, push_rest};
 use std::alloc::{AllocError, Global};
 

@@ -3,7 +3,7 @@
 use crate::lanes::{blocker_of, lane_at, placements_of};
 use crate::notes::{note_of, writer_in, writer_read};
 use crate::source::Source;
-use esr_history::{Entry, Event, Refusal, Reply, TxnId};
+use esr_history::{Entry, Event, Refusal, Reply};
 use esr_items::{ItemId, Metric};
 use esr_report::name_of_transaction;
 use esr_timeline_data::{
