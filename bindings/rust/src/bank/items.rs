@@ -33,26 +33,36 @@ struct Numbers {
 }
 
 /// Returns eight bytes of a name. Names of equal length up to eight differ in these.
+#[inline]
 fn head_of(name: &[u8]) -> u64 {
-    let four = |at: usize| u32::from_le_bytes(name[at..at + 4].try_into().expect("four bytes"));
+    if let Some(first) = name.first_chunk() {
+        return u64::from_le_bytes(*first);
+    }
+    let four = |part: &[u8; 4]| u64::from(u32::from_le_bytes(*part));
+    if let (Some(first), Some(last)) = (name.first_chunk(), name.last_chunk()) {
+        return four(first) | four(last) << 32;
+    }
     match name {
         [] => 0,
-        [first, .., last] | [first @ last] if name.len() < 4 => {
+        [first, .., last] | [first @ last] => {
             let middle = name[name.len() / 2];
             u64::from(*first) | u64::from(middle) << 8 | u64::from(*last) << 16
         }
-        _ if name.len() <= 8 => u64::from(four(0)) | u64::from(four(name.len() - 4)) << 32,
-        _ => u64::from(four(0)) | u64::from(four(4)) << 32,
     }
 }
 
 /// Returns the hash of a name, in its upper bits.
 fn hash_of(name: &[u8], head: u64) -> u64 {
     let rest = name.get(8..).unwrap_or_default().chunks(4);
-    let first = (head ^ name.len() as u64).wrapping_mul(MIX);
+    let first = hash_of_few(name.len(), head);
     rest.fold(first, |hash, part| {
         (hash.rotate_left(23) ^ head_of(part)).wrapping_mul(MIX)
     })
+}
+
+/// Returns the hash of a name of up to eight bytes.
+fn hash_of_few(length: usize, head: u64) -> u64 {
+    (head ^ length as u64).wrapping_mul(MIX)
 }
 
 impl Numbers {
@@ -69,32 +79,57 @@ impl Numbers {
         }
     }
 
-    /// Returns the place of a name, or the empty place where it belongs.
-    fn find(&self, name: &str, names: &[String]) -> usize {
+    /// Returns the place of a name, or the empty place where it belongs, and the number there.
+    #[inline(always)]
+    fn find(&self, name: &str, names: &[String]) -> (usize, u32) {
         let bytes = name.as_bytes();
         let head = head_of(bytes);
-        let mut at = (hash_of(bytes, head) >> self.shift) as usize;
+        if bytes.len() <= 8 {
+            let hash = hash_of_few(bytes.len(), head);
+            return self.probe(hash, head, bytes.len(), |_| true);
+        }
+        self.find_long(name, names)
+    }
+
+    #[inline(never)]
+    fn find_long(&self, name: &str, names: &[String]) -> (usize, u32) {
+        let bytes = name.as_bytes();
+        let head = head_of(bytes);
+        let is_same = |number| names[number as usize] == name;
+        self.probe(hash_of(bytes, head), head, bytes.len(), is_same)
+    }
+
+    /// Returns the first place from that of a hash on which is empty, or has a name with this head and length that `is_same`.
+    #[inline(always)]
+    fn probe(
+        &self,
+        hash: u64,
+        head: u64,
+        length: usize,
+        is_same: impl Fn(u32) -> bool,
+    ) -> (usize, u32) {
+        let mut at = (hash >> self.shift) as usize;
         loop {
             let place = &self.places[at];
-            let has_head = place.head == head && place.length as usize == bytes.len();
-            let is_same = || bytes.len() <= 8 || names[place.number as usize] == name;
-            if place.number == NO_ITEM || (has_head && is_same()) {
-                return at;
+            let has_head = place.head == head && place.length as usize == length;
+            if place.number == NO_ITEM || (has_head && is_same(place.number)) {
+                return (at, place.number);
             }
-            at = (at + 1) % self.places.len();
+            at = (at + 1) & (self.places.len() - 1);
         }
     }
 
+    #[inline(always)]
     fn get(&self, name: &str, names: &[String]) -> Option<u32> {
-        let number = self.places[self.find(name, names)].number;
+        let (_, number) = self.find(name, names);
         (number != NO_ITEM).then_some(number)
     }
 
     /// Adds a name. Returns false if it is there already.
     fn insert(&mut self, number: u32, names: &[String]) -> bool {
         let name = &names[number as usize];
-        let at = self.find(name, names);
-        if self.places[at].number != NO_ITEM {
+        let (at, found) = self.find(name, names);
+        if found != NO_ITEM {
             return false;
         }
         self.places[at] = Place {
@@ -179,6 +214,10 @@ impl Items {
         self.names.iter().map(String::as_str)
     }
 
+    fn number(&self, name: &str) -> Option<u32> {
+        self.numbers.get(name, &self.names)
+    }
+
     /// Returns the names in texts, one on each line.
     pub(super) fn texts(&self) -> &str {
         &self.texts
@@ -216,8 +255,9 @@ pub trait ItemKey: sealed::Sealed {
 impl<T: AsRef<str> + ?Sized> ItemKey for &T {
     fn number(&self, items: &Items) -> Result<u32, Error> {
         let name = self.as_ref();
-        let number = items.numbers.get(name, &items.names);
-        number.ok_or_else(|| Refused::of(Refusal::NoSuchItem).item(name).into())
+        items
+            .number(name)
+            .ok_or_else(|| Refused::of(Refusal::NoSuchItem).item(name).into())
     }
 
     fn label(&self, _: &Items) -> String {
