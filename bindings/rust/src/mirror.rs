@@ -58,6 +58,8 @@ const BEGIN_UPDATE: u32 = 1;
 const READ: u32 = 2;
 const WRITE: u32 = 3;
 const COMMIT: u32 = 4;
+/// The kind of a refusal among replies.
+const REFUSED: u32 = 6;
 const NONE: u32 = u32::MAX;
 
 /// The committed value of an item.
@@ -320,26 +322,25 @@ impl Draft {
 
     /// Checks that all events have a reply, and each the one that the body saw.
     pub(crate) fn judge(&self, answered: usize) -> Result<(), Misfit> {
-        for (event, reply) in self.events.iter().zip(&self.replies[..answered]) {
-            match (reply.kind, event.kind) {
-                (1, BEGIN_UPDATE) if reply.txn == event.txn => {}
-                (6, _) => return Err(Misfit::Refused(*reply)),
-                (2, READ) if reply.value == event.value => {}
-                (3, WRITE) => {}
-                _ => return Err(Misfit::Stale),
-            }
-        }
-        if answered == self.events.len() {
-            Ok(())
-        } else {
-            Err(Misfit::Unanswered)
+        // the reply of an accepted begin, read or write has the number of its kind
+        let fits = |(event, reply): (&sys::Event, &sys::Reply)| match event.kind {
+            BEGIN_UPDATE => reply.kind == BEGIN_UPDATE && reply.txn == event.txn,
+            READ => reply.kind == READ && reply.value == event.value,
+            kind => reply.kind == kind,
+        };
+        let mut replies = self.events.iter().zip(&self.replies[..answered]);
+        match replies.find(|both| !fits(*both)) {
+            Some((_, reply)) if reply.kind == REFUSED => Err(Misfit::Refused(*reply)),
+            Some(_) => Err(Misfit::Stale),
+            None if answered < self.events.len() => Err(Misfit::Unanswered),
+            None => Ok(()),
         }
     }
 
     /// Returns the written items with their last values.
     pub(crate) fn writes(&self) -> impl Iterator<Item = (u32, i64)> + Clone {
-        let writes = self.events.iter().filter(|event| event.kind == WRITE);
-        writes.map(|event| (event.item, event.value))
+        let written = self.touched.iter().filter(|touched| touched.write != NONE);
+        written.map(|touched| (touched.item, self.events[touched.write as usize].value))
     }
 }
 
