@@ -5,8 +5,8 @@
 //! the cache of another processor, which takes as long again. So a holder that leaves while other threads poll *reserves* the
 //! gate for itself: it enters again at once, and the others do not try. Its *lease* ends with the first hold after a poller
 //! has waited for the length of a lease and requested the end; then the gate is open, and threads enter in about the order of
-//! their arrival. The former owner is the last of them. A lease takes 20 microseconds, or more if more threads poll
-//! (`poller`). A reservation that is not used for five microseconds is taken over. If the time between two holds of a thread
+//! their arrival. The former owner is the last of them. A lease takes 20 microseconds, or more if more threads poll or holds
+//! are longer (`poller`). A reservation that is not used for five microseconds is taken over. If the time between two holds of a thread
 //! is too long, leases are suspended (`trial`), and whoever comes first enters. Without pollers nothing is reserved, so a lone
 //! thread waits for no one. An update whose draft was stale reserves the gate in any case, since it has waited already and
 //! comes back as soon as its body has run ([`Guard::reserve`]).
@@ -135,11 +135,19 @@ struct Waiting {
     requested: AtomicU64,
 }
 
+/// What an owner changes when it opens the gate. Threads poll it.
+#[derive(Debug, Default)]
+struct Leases {
+    /// The number of leases that have ended.
+    ended: AtomicU64,
+    /// The time from hold to hold, in nanoseconds.
+    period: AtomicU64,
+}
+
 #[derive(Debug, Default)]
 struct Gate {
     holding: Apart<Holding>,
-    /// The number of leases that have ended. Threads poll it.
-    leases: Apart<AtomicU64>,
+    leases: Apart<Leases>,
     waiting: Apart<Waiting>,
     queue: Mutex<Queue>,
 }
@@ -170,7 +178,7 @@ impl Gate {
     }
 
     fn leases(&self) -> u64 {
-        self.leases.0.load(Ordering::Relaxed)
+        self.leases.0.ended.load(Ordering::Relaxed)
     }
 
     fn has_urgent(&self) -> bool {
@@ -197,7 +205,9 @@ impl Gate {
     }
 
     fn end_lease(&self) {
-        self.leases.0.fetch_add(1, Ordering::Relaxed);
+        let Leases { ended, period } = &self.leases.0;
+        period.store(self.holding.0.trial.period(), Ordering::Relaxed);
+        ended.fetch_add(1, Ordering::Relaxed);
     }
 
     /// Requests the end of a lease, the `lease`th from 0.

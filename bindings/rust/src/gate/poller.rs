@@ -9,7 +9,8 @@
 //! The longer a lease, the fewer transactions find the engine's data in another cache, and the longer a thread waits for the
 //! leases of the others. A lease is short for one poller. With more of them the data of more threads moves, so a lease is
 //! longer. If many more threads are busy than there are processors, a thread waits for turns of a millisecond (`turns`), and
-//! leases of a twentieth of that hardly add to its wait.
+//! leases of a twentieth of that hardly add to its wait. Moving the data takes about as long as a transaction. So a lease has
+//! time for [`HOLDS`] of them, also with larger transactions or on a slower host.
 //!
 //! Rejected: leases of 100 microseconds for too many threads, which gained nothing, with a higher 99th percentile.
 
@@ -23,6 +24,10 @@ const LEASE: u64 = 20_000;
 const MORE: u64 = 6_000;
 /// The length of a lease if many more threads are busy than there are processors.
 const LONGER: u64 = 50_000;
+/// A lease has time for this number of holds.
+const HOLDS: u64 = 20;
+/// The length of a lease for that number of holds is at most this.
+const LONGEST: u64 = 100_000;
 /// A reservation that is not used for this time in nanoseconds is taken over.
 const LOOK: u64 = if cfg!(test) { 1 } else { 5_000 };
 /// A thread sleeps after this time in one lease. No lease is as long, unless its owner is preempted.
@@ -32,13 +37,14 @@ const POLITE_POLLS: u32 = if cfg!(test) { 1 } else { 50 };
 /// The largest number of polls for which a thread lets earlier ones go first.
 const MAX_RANK: u64 = 4;
 
-/// Returns the length of a lease next to a number of threads that poll.
-pub(super) fn length(polling: u64, is_crowded: bool) -> u64 {
-    if is_crowded {
+/// Returns the length of a lease next to a number of threads that poll, if there is a hold in each `period`.
+pub(super) fn length(polling: u64, is_crowded: bool, period: u64) -> u64 {
+    let least = if is_crowded {
         LONGER
     } else {
         LEASE + MORE * polling.saturating_sub(1)
-    }
+    };
+    least.max((HOLDS * period).min(LONGEST))
 }
 
 pub(super) struct Poller<'a> {
@@ -119,7 +125,8 @@ impl Poller<'_> {
 
     /// Reports whether the lease may end.
     fn is_over(&self) -> bool {
-        cfg!(test) || self.waited >= length(self.polling(), turns::is_crowded())
+        let period = || self.gate.leases.0.period.load(Ordering::Relaxed);
+        cfg!(test) || self.waited >= length(self.polling(), turns::is_crowded(), period())
     }
 
     /// Returns the number of threads that go first.

@@ -244,15 +244,30 @@ fn a_poller_requests_the_end_of_a_lease() {
     assert_eq!((left(&gate), gate.leases()), (Kind::Open, 2));
 }
 
-/// A lease is longer for more pollers, and longest if there are too many threads.
+/// A lease is longer for more pollers, for too many threads, and for longer holds up to a limit.
 #[test]
 fn more_threads_make_leases_longer() {
-    let lengths = [0, 1, 2, 7].map(|polling| poller::length(polling, false));
-    assert_eq!(lengths, [20_000, 20_000, 26_000, 56_000]);
-    assert_eq!(
-        [1, 7].map(|polling| poller::length(polling, true)),
-        [50_000; 2]
-    );
+    let lengths = |pollers: &[u64], is_crowded, period| {
+        let lengths = pollers.iter();
+        let lengths = lengths.map(|polling| poller::length(*polling, is_crowded, period));
+        lengths.collect::<Vec<_>>()
+    };
+    let pollers = [0, 1, 2, 7];
+    let few = [20_000, 20_000, 26_000, 56_000];
+    assert_eq!(lengths(&pollers, false, 900), few);
+    assert_eq!(lengths(&pollers, true, 900), [50_000; 4]);
+    assert_eq!(lengths(&pollers, false, 3_000), [60_000; 4]);
+    assert_eq!(lengths(&pollers, true, 30_000), [100_000; 4]);
+}
+
+/// An owner that ends its lease publishes how long a hold takes.
+#[test]
+fn pollers_know_the_period() {
+    let gate = held(1);
+    gate.holding.0.trial.estimate(1_000);
+    gate.request_end(0);
+    assert_eq!((left(&gate), gate.leases()), (Kind::Open, 1));
+    assert_eq!(gate.leases.0.period.load(Ordering::SeqCst), 1);
 }
 
 /// A thread ends its own lease only.

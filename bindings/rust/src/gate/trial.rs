@@ -11,6 +11,9 @@
 //! Rejected: a longest gap in nanoseconds, which does not fit a host that is three times slower; the throughput of both ways
 //! in turn, which holds of stale drafts distort.
 //!
+//! The measured holds also estimate the *period*: the time from hold to hold in a lease. Each changes the estimate by a
+//! sixteenth, so it is near the median, and a thread that was preempted changes it little.
+//!
 //! Only the holder changes this, so all operations are relaxed: entering the gate orders them.
 
 use crate::sync::{AtomicU64, nanoseconds};
@@ -33,6 +36,8 @@ pub(super) struct Trial {
     since: AtomicU64,
     /// The gap before the hold that is measured, or 0.
     gap: AtomicU64,
+    /// The estimate of the period.
+    period: AtomicU64,
 }
 
 impl Trial {
@@ -62,9 +67,30 @@ impl Trial {
     pub(super) fn leave(&self, holds: u64) {
         let gap = self.gap.load(Relaxed);
         if gap > 0 {
+            let hold = nanoseconds() - self.since.load(Relaxed);
             self.gap.store(0, Relaxed);
-            self.judge(gap, nanoseconds() - self.since.load(Relaxed), holds);
+            self.judge(gap, hold, holds);
+            // the first hold of a new owner takes longer
+            if (holds - 1) % SAMPLE == 0 {
+                self.estimate(gap + hold);
+            }
         }
+    }
+
+    pub(super) fn estimate(&self, measured: u64) {
+        let period = self.period();
+        let step = period / 16 + 1;
+        let next = if measured > period {
+            period + step
+        } else {
+            period.saturating_sub(step)
+        };
+        self.period.store(next, Relaxed);
+    }
+
+    /// Returns about the time from hold to hold in a lease, in nanoseconds.
+    pub(super) fn period(&self) -> u64 {
+        self.period.load(Relaxed)
     }
 
     fn judge(&self, gap: u64, hold: u64, holds: u64) {
@@ -97,6 +123,20 @@ mod tests {
         assert!(trial.is_suspended(3) && !trial.is_suspended(4));
     }
 
+    /// The period is estimated from below and above, and one that is very long changes it little.
+    #[test]
+    fn the_period_is_near_the_median() {
+        let trial = Trial::default();
+        for measured in [1_000, 3_000] {
+            (0..300).for_each(|_| trial.estimate(measured));
+            assert!(trial.period().abs_diff(measured) <= measured / 15);
+            trial.estimate(1_000_000_000);
+            assert!(trial.period() < measured + measured / 5);
+        }
+        (0..300).for_each(|_| trial.estimate(500));
+        assert!(trial.period() < 550);
+    }
+
     /// Reservations are suspended for longer the more often they fail, and sooner resumed after good ones.
     #[test]
     fn doubt_doubles_and_halves() {
@@ -126,5 +166,12 @@ mod tests {
         assert!(trial.gap.load(Relaxed) >= 1_000_000);
         trial.leave(2);
         assert!(trial.gap.load(Relaxed) == 0 && trial.is_suspended(3));
+        assert_eq!(trial.period(), 0);
+        trial.reserve(4, false);
+        nanoseconds();
+        std::thread::sleep(std::time::Duration::from_millis(1));
+        trial.enter();
+        trial.leave(5);
+        assert_eq!(trial.period(), 1);
     }
 }
