@@ -1,6 +1,7 @@
-//! The load of `threads.h` over a `Bank`, with the same arguments and output, and one number more: the longest transaction
-//! during the commit and audit of a report, in microseconds. It compiles with older versions of the crate, too: `--cfg
-//! locked` audits under the lock, and `--cfg stepwise` runs updates step by step.
+//! The load of `threads.h` over a `Bank`, with the same arguments and output, and three numbers more, in microseconds: the
+//! longest transaction during the commit and audit of a report, the longest at other times, and the longest processor time
+//! that the report's thread takes for its commit and audit. It holds the bank's lock for less than that. It compiles with
+//! older versions of the crate, too: `--cfg locked` audits under the lock, and `--cfg stepwise` runs updates step by step.
 
 use esr::{Bank, Error};
 use std::{
@@ -17,6 +18,18 @@ const LIMIT: u64 = 1_000_000_000_000_000_000;
 static READ: AtomicUsize = AtomicUsize::new(0);
 static AUDITED: AtomicUsize = AtomicUsize::new(0);
 
+unsafe extern "C" {
+    safe fn clock_gettime(clock: i32, time: &mut [i64; 2]) -> i32;
+}
+
+/// Returns the processor time of this thread.
+fn processor_time() -> Duration {
+    const OF_THREAD: i32 = 3;
+    let mut time = [0; 2];
+    clock_gettime(OF_THREAD, &mut time);
+    Duration::new(time[0] as u64, time[1] as u32)
+}
+
 fn next_below(state: &mut u64, span: usize) -> usize {
     *state ^= *state << 13;
     *state ^= *state >> 7;
@@ -24,11 +37,11 @@ fn next_below(state: &mut u64, span: usize) -> usize {
     ((*state >> 32) as usize * span) >> 32
 }
 
-/// Runs transactions until the end. Returns their latencies in nanoseconds, and the longest of one that overlaps with the end
-/// of a report.
-fn work(bank: &Bank, names: &[String], place: (usize, usize), is_hot: bool, ended: &AtomicBool) -> (Vec<u32>, u32) {
+/// Runs transactions until the end. Returns their latencies in nanoseconds, and the longest: of those that overlap with the
+/// end of a report, and of the others.
+fn work(bank: &Bank, names: &[String], place: (usize, usize), is_hot: bool, ended: &AtomicBool) -> (Vec<u32>, [u32; 2]) {
     let (id, threads) = place;
-    let (span, mut latencies, mut longest) = (ITEMS / threads, Vec::with_capacity(1 << 22), 0);
+    let (span, mut latencies, mut longest) = (ITEMS / threads, Vec::with_capacity(1 << 22), [0; 2]);
     let mut state = 88_172_645_463_325_252 + 7919 * id as u64;
     while !ended.load(Ordering::Relaxed) {
         let mut items = [0; 4];
@@ -59,16 +72,16 @@ fn work(bank: &Bank, names: &[String], place: (usize, usize), is_hot: bool, ende
         let nanoseconds = begun.elapsed().as_nanos().min(u32::MAX.into()) as u32;
         done.expect("it commits");
         latencies.push(nanoseconds);
-        if READ.load(Ordering::SeqCst) > audited {
-            longest = longest.max(nanoseconds);
-        }
+        let longest = &mut longest[usize::from(READ.load(Ordering::SeqCst) == audited)];
+        *longest = nanoseconds.max(*longest);
     }
     (latencies, longest)
 }
 
-/// Sums 1,000 items again and again. Returns the number of reports, and the longest.
-fn report(bank: &Bank, names: &[String], period: Duration, ended: &AtomicBool) -> (usize, Duration) {
-    let (mut count, mut longest) = (0, Duration::ZERO);
+/// Sums 1,000 items again and again. Returns the number of reports, the longest, and the longest processor time for the commit
+/// and audit of one.
+fn report(bank: &Bank, names: &[String], period: Duration, ended: &AtomicBool) -> (usize, [Duration; 2]) {
+    let (mut count, mut longest, mut read) = (0, [Duration::ZERO; 2], Duration::ZERO);
     while !ended.load(Ordering::Relaxed) {
         let begun = Instant::now();
         let sum = bank.report(LIMIT, |report| {
@@ -77,12 +90,14 @@ fn report(bank: &Bank, names: &[String], period: Duration, ended: &AtomicBool) -
             #[cfg(before)]
             let sum = names.iter().step_by(4).take(1000).map(|name| report.read(name)).sum::<Result<i64, Error>>()?;
             READ.store(count + 1, Ordering::SeqCst);
+            read = processor_time();
             Ok::<_, Error>(sum)
         });
+        let audited = processor_time() - read;
         AUDITED.store(count + 1, Ordering::SeqCst);
         let (_, finding) = sum.expect("it commits");
         assert!(finding.distance <= finding.import);
-        longest = longest.max(begun.elapsed());
+        longest = [longest[0].max(begun.elapsed()), longest[1].max(audited)];
         count += 1;
         thread::sleep(period.saturating_sub(begun.elapsed()));
     }
@@ -102,16 +117,16 @@ fn main() {
     let bank = builder.open().expect("the items are within the limits");
     let ended = AtomicBool::new(false);
     let begun = Instant::now();
-    let (mut latencies, pause, reports, taken) = thread::scope(|scope| {
+    let (mut latencies, longest, reports, taken) = thread::scope(|scope| {
         let (bank, names, ended) = (&bank, &names[..], &ended);
         let workers = (0..threads).map(|id| scope.spawn(move || work(bank, names, (id, threads), is_hot, ended)));
         let workers: Vec<_> = workers.collect();
         let reporter = (!period.is_zero()).then(|| scope.spawn(move || report(bank, names, period, ended)));
         thread::sleep(Duration::from_secs_f64(time));
         ended.store(true, Ordering::Relaxed);
-        let (all, pauses): (Vec<_>, Vec<u32>) = workers.into_iter().map(|worker| worker.join().expect("no panic")).unzip();
-        let (taken, pause) = (begun.elapsed(), pauses.into_iter().max().unwrap_or_default());
-        (all.concat(), pause, reporter.map(|reporter| reporter.join().expect("no panic")), taken)
+        let (all, longest): (Vec<_>, Vec<[u32; 2]>) = workers.into_iter().map(|worker| worker.join().expect("no panic")).unzip();
+        let taken = begun.elapsed();
+        (all.concat(), longest, reporter.map(|reporter| reporter.join().expect("no panic")), taken)
     });
     let sum: i64 = names.iter().map(|name| bank.value(name.as_str()).expect("it is there")).sum();
     assert_eq!(sum, 4 * latencies.len() as i64, "a transaction was lost");
@@ -121,6 +136,7 @@ fn main() {
         let place = ((latencies.len() - 1) as f64 * share) as usize;
         print!(" {:.1}", f64::from(latencies[place]) / 1000.0);
     }
-    let (count, longest) = reports.unwrap_or_default();
-    println!(" {count} {} {}", longest.as_micros(), pause / 1000);
+    let (count, [report, audit]) = reports.unwrap_or_default();
+    let [pause, other] = [0, 1].map(|kind| longest.iter().map(|longest| longest[kind] / 1000).max().unwrap_or_default());
+    println!(" {count} {} {pause} {other} {}", report.as_micros(), audit.as_micros());
 }
