@@ -240,6 +240,8 @@ fn a_poller_requests_the_end_of_a_lease() {
     gate.end_lease();
     assert!(!poller.poll());
     assert_eq!(left(&gate), Kind::Reserved);
+    // a long gap would end the lease, too
+    gate.holding.0.trial.reserve(1, false);
     assert!(gate.try_at_once(false) && !poller.poll());
     assert_eq!((left(&gate), gate.leases()), (Kind::Open, 2));
 }
