@@ -1,6 +1,6 @@
 //! A replay: a machine that has executed the first entries of a history, and the imports by the last of them.
 
-ghost use Rattle.std.specs.Prelude.{◌≡◌, ◌<◌, ◌≤◌, ◌+◌, ◌-◌, ◌^◌, Some, length, min, slice_get, IfOk, IfSome, OnOk, OnErr};
+ghost use Rattle.std.specs.Prelude.{◌≡◌, ◌<◌, ◌≤◌, ◌+◌, ◌-◌, ◌^◌, [], Some, length, min, slice_get, IfOk, IfSome, OnOk, OnErr};
 ghost use Rattle.esr_history.specs.declared.event.Entry.{Entry};
 ghost use Rattle.esr_history.specs.Imports.{imported};
 ghost use Rattle.esr_history.specs.Machine.{empty_schedule, extended, reply_to};
@@ -65,6 +65,7 @@ impl<'a, M: Metric> Replay<'a, M> {
     pub fn new(alloc: Global, history: &'a History<M>) -> Result<Replay<'a, M>, NoMemory>
         ensures history { IfOk result (λ r. r.history ≡ history.entry.now.schedule) }
         ensures count { IfOk result (λ r. r.count ≡ 0) }
+        ensures imports { IfOk result (λ r. r.imports ≡ []) }
     {
         Ok(Replay {
             history,

@@ -1,5 +1,5 @@
 -- Receipts of answered calls, and lists of receipts that match a history.
-use Rattle.std.specs.Prelude.{◌≡◌, ℕ, ◌+◌, ◌<◌, ◌≤◌, ◌==◌, Bool, true, false, List, [], ◌∷◌, ◌++◌, length, slice_get, count_by, All, Some, Result, Ok, Err, ℤ, flat_map, sum_by}
+use Rattle.std.specs.Prelude.{◌≡◌, ℕ, ◌+◌, ◌<◌, ◌≤◌, ◌==◌, Bool, true, false, List, [], ◌∷◌, ◌++◌, length, slice_get, get_or, count_by, All, Some, Result, Ok, Err, ℤ, flat_map, sum_by}
 use Rattle.esr_history.specs.Machine.{DistanceFunction, IsLegal, schedule_of}
 use Rattle.esr_history.specs.declared.event.Event.{Event}
 use Rattle.esr_history.specs.declared.event.Reply.{Reply}
@@ -118,3 +118,7 @@ AreBlocked d opening weights event rs =
 -- receipts of which the last is that of a blocked event
 abbrev pub EndsBlocked : List Receipt → Type 0
 EndsBlocked rs = (early : List Receipt) × (r : Receipt) × (rs ≡ early ++ r ∷ []) × (is_blocked r.reply ≡ true)
+
+-- receipts of which only the last may be that of a blocked event
+abbrev pub BlockedOnlyLast : List Receipt → Type 0
+BlockedOnlyLast rs = (i : ℕ) (d : Receipt) → i + 1 < length rs → is_blocked (get_or rs i d).reply ≡ false

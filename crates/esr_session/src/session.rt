@@ -4,7 +4,7 @@
 //! receipt that a call leaves, and `step_on`, under the lock, says the rest.
 ghost use Rattle.std.specs.Prelude.{◌≡◌, ◌+◌, ◌<◌, ◌≤◌, ◌⊎◌, List, [], ◌∷◌, ◌++◌, true, length, All, None, IfOk, OnErr, IfErr};
 ghost use Rattle.esr_base.specs.declared.limits.TheConstants.{MAX_ENTRIES};
-ghost use Rattle.esr_session.specs.Receipts.{IsReceipt, AreBlocked, EndsBlocked, is_blocked};
+ghost use Rattle.esr_session.specs.Receipts.{IsReceipt, AreBlocked, EndsBlocked, BlockedOnlyLast, is_blocked};
 ghost use Rattle.esr_session.specs.declared.receipt.Receipt.{Receipt};
 
 use crate::engine_name::Naming;
@@ -134,6 +134,7 @@ impl<M: Metric + Drop, N: Naming> Session<M, N> {
         ensures source { (first : A) → A.Became first self.old source.old → A.Became first self.new source.new }
         ensures none { IfOk result (λ n. 1 ≤ upper_bound → n ≡ 0 → A.next source.old ≡ None) }
         ensures end { IfOk result (λ n. n < upper_bound → (A.next source.new ≡ None) ⊎ EndsBlocked self.new) }
+        ensures held { (more : List Receipt) × (self.new ≡ self.old ++ more) × BlockedOnlyLast more }
     {
         let mut locked = self.shared.lock(rt);
         step_several(&mut *locked, &mut self.pocket, source, upper_bound)

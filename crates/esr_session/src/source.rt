@@ -6,7 +6,7 @@
 //! of events does not suffice, since a later event names the transaction that an earlier one began. So the source is
 //! asked for each event after the reply to the one before it.
 ghost use Rattle.std.specs.Prelude.{◌≡◌, ◌<◌, ◌≤◌, ◌⊎◌, ◌++◌, List, ℕ, None, All, length, IfOk};
-ghost use Rattle.esr_session.specs.Receipts.{IsReceipt, EndsBlocked};
+ghost use Rattle.esr_session.specs.Receipts.{IsReceipt, EndsBlocked, BlockedOnlyLast};
 ghost use Rattle.esr_session.specs.declared.receipt.Receipt.{Receipt};
 
 use crate::engine_name::Naming;
@@ -39,6 +39,7 @@ pub trait EventSource {
 }
 
 /// Executes up to `upper_bound` events of a source, until one is blocked or the source is exhausted. Returns how many.
+#[tactic(auto, using(crate::proofs::Calls::free_so_far))]
 pub(crate) fn step_several<M: Metric, N: Naming, A: EventSource>(
     locked: &mut Locked<M, N>,
     pocket: &mut Pocket<N>,
@@ -50,6 +51,7 @@ pub(crate) fn step_several<M: Metric, N: Naming, A: EventSource>(
     ensures source { (first : A) → A.Became first pocket.old source.old → A.Became first pocket.new source.new }
     ensures none { IfOk result (λ n. 1 ≤ upper_bound → n ≡ 0 → A.next source.old ≡ None) }
     ensures end { IfOk result (λ n. n < upper_bound → (A.next source.new ≡ None) ⊎ EndsBlocked pocket.new) }
+    ensures held { (more : List Receipt) × (pocket.new ≡ pocket.old ++ more) × BlockedOnlyLast more }
 {
     for count in 0..upper_bound {
         let Some(event) = source.next() else {
