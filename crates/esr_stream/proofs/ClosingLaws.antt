@@ -19,7 +19,7 @@ use Rattle.esr_order.proofs.Batches.{ahead, conflict_parts}
 use Rattle.esr_bound.specs.Amounts.{mark_at, HasMarked}
 use Rattle.esr_bound.proofs.LowerBound.{nth_in, pairs_at}
 use Rattle.esr_stream.specs.Closing.{IsAdded, IsFlag, SummarizeLater, has_access}
-use Rattle.esr_stream.specs.Passes.{StayMarked}
+use Rattle.esr_stream.specs.Passes.{NoneMarkedFrom, StayMarked}
 use Rattle.esr_stream.proofs.PassLaws.{mark_same, mark_other, stay_more}
 
 -- from position k on, marks are closed, and each closed set with the seeds has all marked updates
@@ -30,13 +30,13 @@ pub record IsClosedFrom (h : Schedule) (q k : ℕ) (seeds marks : List Bool) (s 
   pub down : (i j : ℕ) → k ≤ i → i < j → j < length (updates_committed_before h q) → is_before h (nth (updates_committed_before h q) i) (nth (updates_committed_before h q) j) ≡ true → mark_at marks j ≡ true → mark_at marks i ≡ true
   pub spread : (S : ℕ → Bool) → IsClosed h q S → HasMarked h q seeds S → HasMarked h q marks S
 
-no_flag : (h : Schedule) (q k : ℕ) (marks : List Bool) (x : ℕ) (w flag : Bool) → flag ≡ false → length (updates_committed_before h q) ≤ k → IsFlag h q k marks x w flag
+no_flag : (h : Schedule) (q k : ℕ) (marks : List Bool) (x : ℕ) (w flag : Bool) → flag ≡ false → NoneMarkedFrom k marks → IsFlag h q k marks x w flag
 no_flag h q k marks x w flag none past = record {
   set = λ t. absurd (true≢false (sym t ∙ none));
-  all = λ j l m a b. absurd (omega (arith, l, m, past));
+  all = λ j l m a b. absurd (true≢false (sym a ∙ past j l));
 }
 
-pub closed_start : (h : Schedule) (q k : ℕ) (marks : List Bool) (s : Seen) → length (updates_committed_before h q) ≤ k → ((x : ℕ) → marked s.read x ≡ false) → ((x : ℕ) → marked s.written x ≡ false) → IsClosedFrom h q k marks marks s
+pub closed_start : (h : Schedule) (q k : ℕ) (marks : List Bool) (s : Seen) → NoneMarkedFrom k marks → ((x : ℕ) → marked s.read x ≡ false) → ((x : ℕ) → marked s.written x ≡ false) → IsClosedFrom h q k marks marks s
 closed_start h q k marks s past read written = record {
   len = refl;
   stay = λ i m. m;
@@ -44,7 +44,7 @@ closed_start h q k marks s past read written = record {
     read = λ x. no_flag h q k marks x false (marked s.read x) (read x) past;
     written = λ x. no_flag h q k marks x true (marked s.written x) (written x) past;
   };
-  down = λ i j l m n b t. absurd (omega (arith, l, m, n, past));
+  down = λ i j l m n b t. absurd (true≢false (sym t ∙ past j (omega (arith, l, m))));
   spread = λ S closed has. has;
 }
 

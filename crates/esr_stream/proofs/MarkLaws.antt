@@ -1,7 +1,9 @@
 -- The marked updates as a set of transactions: membership by position, and closed sets.
-use Rattle.std.proofs.Common.{◌≡◌, ◌≢◌, ℕ, ◌+◌, ◌<◌, ◌≤◌, Bool, true, false, ◌&&◌, eqb, cond, List, [], ◌∷◌, ◌++◌, length, take, filter, refl, sym, ap, ◌∙◌, subst, ⊎_elim, arith, Contains, nat_lt}
+use Rattle.std.proofs.Common.{◌≡◌, ◌≢◌, ℕ, ◌+◌, ◌<◌, ◌≤◌, Bool, true, false, ◌&&◌, eqb, cond, List, [], ◌∷◌, ◌++◌, length, take, filter, refl, sym, ap, ◌∙◌, subst, ⊎_elim, inl, inr, arith, Contains, nat_lt}
 use Rattle.std.specs.List.{range_with_len}
-use Rattle.std.proofs.lemmas.Bool.{and_parts, and_from, eqb-true, eq-eqb, cases_order, ltb-true}
+use Rattle.std.proofs.lemmas.Bool.{and_parts, and_from, eqb-true, eq-eqb, cases_lt, cases_order, ltb-true}
+use Rattle.std.proofs.lemmas.List.{get_or_past}
+use Rattle.esr_history.proofs.Ascending.{le_ltb}
 use Rattle.esr_history.specs.Machine.{DistanceFunction, Schedule, IsLegal}
 use Rattle.esr_history.specs.Serial.{is_before}
 use Rattle.esr_history.specs.Queries.{updates_committed_before, must}
@@ -15,7 +17,7 @@ use Rattle.esr_order.proofs.ConflictOrder.{in_order}
 use Rattle.esr_order.proofs.Batches.{up}
 use Rattle.esr_bound.specs.Amounts.{mark_at, among_marked, AreForced}
 use Rattle.esr_bound.proofs.LowerBound.{in_range, range_in, pairs_at}
-use Rattle.esr_stream.specs.Passes.{IsPrefixMarked}
+use Rattle.esr_stream.specs.Passes.{IsPrefixMarked, NoneMarkedFrom}
 
 module _ (d : DistanceFunction) (h : Schedule) (q : ℕ) (legal : IsLegal d h) (marks : List Bool) where
   apart : (i j : ℕ) → i < j → j < length (updates_committed_before h q) → nth (updates_committed_before h q) i ≡ nth (updates_committed_before h q) j → ⊥
@@ -76,3 +78,10 @@ pub first_forced : (d : DistanceFunction) (h : Schedule) (q : ℕ) → IsLegal d
 first_forced d h q legal n worth C first marks is only S closed low i l m =
     let early : i < first = ltb-true i first (sym (only i l) ∙ m) in
     closed.holds_must (nth (updates_committed_before h q) i) (low_must d h q legal i (omega (arith, early, is)))
+
+-- only the first updates are marked
+pub none_marked_first : (first : ℕ) (marks : List Bool) → ((i : ℕ) → i < length marks → mark_at marks i ≡ nat_lt i first) → NoneMarkedFrom first marks
+none_marked_first first marks only i low = elim (cases_lt i (length marks)) [
+  | inl l ↦ only i l ∙ le_ltb i first low
+  | inr past ↦ get_or_past marks i false past
+]

@@ -21,7 +21,7 @@ use Rattle.esr_order.specs.Chains.{nth}
 use Rattle.esr_bound.specs.Amounts.{Amount, total, total_amounts, total_loans, mark_at, Wrote, accessed, left_by_all, AreCovered, HasReason, IsStep}
 use Rattle.esr_history.proofs.LastWriter.{empty_or_not}
 use Rattle.esr_history.proofs.Membership.{In, In-any, In-of_filter, any-from_In, each_in, each_at}
-use Rattle.esr_stream.specs.Passes.{ItemState, state_at, nth_access, is_access, is_write, written_in, has_slack_at, is_owed_at, has_write_reason, HasReadReason, carried_at, as_covered, IsPrefixMarked, AreStates, AreOpening, IsReadOf, IsWrittenBy, IsUpdateApplied}
+use Rattle.esr_stream.specs.Passes.{ItemState, state_at, nth_access, is_access, is_write, written_in, has_slack_at, is_owed_at, has_write_reason, HasReadReason, carried_at, unowed_at, as_covered, IsPrefixMarked, AreStates, AreOpening, IsReadOf, IsWrittenBy, IsUpdateApplied}
 
 map_if : {X : Type 0} (f : X → ℤ) (b : Bool) (x : X) (xs : List X) → map f (cond b (x ∷ xs) xs) ≡ cond b (f x ∷ map f xs) (map f xs)
 map_if f true x xs = refl
@@ -243,6 +243,39 @@ module _ (h : Schedule) (q : ℕ) (C : ℕ → ℤ → ℕ) (k : ℕ) (marked : 
       earlier = earlier;
       mark = why;
     }
+
+-- ---- without marks
+
+module _ (h : Schedule) (q : ℕ) (C : ℕ → ℤ → ℕ) (k : ℕ) (marked : Bool) (proposed : ℕ → ℕ) (ms seen marks : List Bool) (row : List Access) (old new : List ItemState) (before after : ℕ)
+    (so_far : AreStates C h q k ms old) (is_row : row ≡ accesses_in h.entries (nth (updates_committed_before h q) k))
+    (next : (x : ℕ) → left_by_all h q (k + 1) x ≡ last_value (left_by_all h q k x) (values_by h x (nth (updates_committed_before h q) k)))
+    (put : IsUpdateApplied C marked proposed row old new before after) (earlier : (i : ℕ) → i < k → mark_at seen i ≡ mark_at ms i) (marked_is : mark_at seen k ≡ marked)
+    (keeps : before ≤ after) (none : mark_at marks k ≡ false) where
+  abbrev step : IsStep (length h.opening) C h q k (carried_at old) (carried_at new) true ms seen
+  step = step_made h q C k marked proposed ms seen row old new before after so_far is_row next put earlier true keeps marked_is (λ _. inl refl)
+
+  -- the update's step does not depend on its mark
+  pub unowed_step : IsStep (length h.opening) C h q k (unowed_at old) (unowed_at new) false marks marks
+  unowed_step = record {
+    others = λ x l e. ap (λ (a : Amount). record { amount = a.amount; loan = a.loan; owed = false }) (step.others x l e);
+    under = step.under;
+    raised = step.raised;
+    lent = step.lent;
+    owed_by_writer = λ x l some o. absurd (true≢false (sym o));
+    owed_by_reader = λ x l none o. absurd (true≢false (sym o));
+    sum = step.sum;
+    earlier = λ i l. refl;
+    mark = λ m. absurd (true≢false (sym m ∙ none));
+  }
+
+unowed_covered : (states : List ItemState) (x : ℕ) → unowed_at (map as_covered states) x ≡ unowed_at states x
+unowed_covered [] x = refl
+unowed_covered (s ∷ states) zero = refl
+unowed_covered (s ∷ states) (suc x) = unowed_covered states x
+
+-- a copy in which all writers are covered has the same amounts and loans
+pub same_covered : (states copy : List ItemState) → copy ≡ map as_covered states → (x : ℕ) → unowed_at copy x ≡ unowed_at states x
+same_covered states copy e x = ap (λ (l : List ItemState). unowed_at l x) e ∙ unowed_covered states x
 
 -- ---- the opening values
 

@@ -15,9 +15,10 @@ use Rattle.esr_history.specs.Queries.{updates_committed_before}
 use Rattle.esr_order.specs.Placements.{IsClosed}
 use Rattle.esr_order.specs.Least.{nearest_placement, least_distance}
 use Rattle.std.specs.List.{list_any}
-use Rattle.esr_bound.specs.Amounts.{Amount, left_by_all, mark_at, among_marked, cost_by, AreCovered, AreForced, Carries, HasMarked}
+use Rattle.esr_bound.specs.Amounts.{Amount, left_by_all, mark_at, among_marked, cost_by, AreCovered, AreForced, Carries, HasMarked, Shows}
 use Rattle.esr_order.specs.declared.accesses.Access.{Access}
 pub use Rattle.esr_stream.specs.declared.items.ItemState.{ItemState}
+use Rattle.esr_stream.specs.declared.rounds.MarkedPrefix.{MarkedPrefix}
 use Rattle.esr_stream.specs.declared.amounts.Version.{Version}
 use Rattle.esr_stream.specs.declared.reads.TheConstants.{OFFSET}
 
@@ -50,6 +51,10 @@ amount_at states x = (state_at states x).amount
 
 abbrev pub carried_at : List ItemState → ℕ → Amount
 carried_at states x = record { amount = (state_at states x).amount; loan = (state_at states x).loan; owed = (state_at states x).owed }
+
+-- the same, if no marked update has a loan
+abbrev pub unowed_at : List ItemState → ℕ → Amount
+unowed_at states x = record { amount = (state_at states x).amount; loan = (state_at states x).loan; owed = false }
 
 abbrev pub amounts_sum : List ItemState → ℕ
 amounts_sum states = sum_by (λ i. i.amount) states
@@ -158,3 +163,41 @@ StayMarked old new = (i : ℕ) → mark_at old i ≡ true → mark_at new i ≡ 
 -- commit order
 abbrev pub IsNearestPlacement : DistanceFunction → Schedule → ℕ → ℕ → List ℕ → Type 0
 IsNearestPlacement d h q distance before = (distance ≡ least_distance d h q) × (before ≡ nearest_placement d h q)
+
+-- no update from position k on is marked
+abbrev pub NoneMarkedFrom : ℕ → List Bool → Type 0
+NoneMarkedFrom k marks = (i : ℕ) → k ≤ i → mark_at marks i ≡ false
+
+-- The amounts after the first k updates are enough for the bound: if each closed set with the seeds carries a worth in them, the
+-- marks, all before position k, are forced as at the end of a pass. This holds if the updates from position k on do not decrease
+-- the sum of the amounts less the loans.
+abbrev pub AreEnough : ℕ → (ℕ → ℤ → ℕ) → Schedule → ℕ → ℕ → (ℕ → Amount) → Type 0
+AreEnough n C h q k amounts = (worth : ℕ) (seeds marks : List Bool) → NoneMarkedFrom k marks
+    → ((S : ℕ → Bool) → IsClosed h q S → HasMarked h q seeds S → Carries n C h q worth k amounts marks S)
+    → Shows n C h q worth seeds marks
+
+-- the amounts of these states are enough at their position
+abbrev pub IsEnough : ℕ → (ℕ → ℤ → ℕ) → Schedule → ℕ → MarkedPrefix → Type 0
+IsEnough n C h q prefix = AreEnough n C h q prefix.len (unowed_at prefix.states.items)
+
+-- these prefixes have the same length, amounts and loans
+abbrev pub IsSame : MarkedPrefix → MarkedPrefix → Type 0
+IsSame a b = (a.len ≡ b.len) × ((x : ℕ) → unowed_at a.states.items x ≡ unowed_at b.states.items x)
+
+-- these are the states at the position, if all updates before it are marked
+abbrev pub HasStates : (ℕ → ℤ → ℕ) → Schedule → ℕ → MarkedPrefix → Type 0
+HasStates C h q prefix = (ms : List Bool) → IsPrefixMarked prefix.len ms → AreStates C h q prefix.len ms prefix.states.items
+
+-- every closed set costs at least `worth`
+abbrev pub HasBound : ℕ → (ℕ → ℤ → ℕ) → Schedule → ℕ → ℕ → Type 0
+HasBound n C h q worth = (S : ℕ → Bool) → IsClosed h q S → worth ≤ cost_by n C h q S
+
+-- a pass from position k to position m keeps its invariant
+abbrev pub KeepsInvariant : ℕ → (ℕ → ℤ → ℕ) → Schedule → ℕ → ℕ → ℕ → List Bool → List ItemState → List Bool → List ItemState → Type 0
+KeepsInvariant n C h q k m old_marks old_states new_marks new_states = (worth : ℕ) (seeds : List Bool)
+    → IsPassInvariant n C h q worth k seeds old_marks old_states → IsPassInvariant n C h q worth m seeds new_marks new_states
+
+-- if the amounts after a pass from position k to position m are enough, those before it are
+abbrev pub KeepsEnough : ℕ → (ℕ → ℤ → ℕ) → Schedule → ℕ → ℕ → ℕ → List Bool → List ItemState → List ItemState → Type 0
+KeepsEnough n C h q k m old_marks old_states new_states = (worth : ℕ) (seeds : List Bool)
+    → IsPassInvariant n C h q worth k seeds old_marks old_states → AreEnough n C h q m (unowed_at new_states) → AreEnough n C h q k (unowed_at old_states)

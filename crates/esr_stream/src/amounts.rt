@@ -133,6 +133,9 @@ pub struct ProposedAmounts {
     starts: Vec<u32>,
     /// The current version of each item.
     current: Vec<CurrentVersion>,
+    /// For each update that the sweep has passed, the number of targets that it overwrites: versions that the sweep has not passed
+    /// and that have residual capacity.
+    targets: Vec<u16>,
     /// The reads of the updates.
     pub reads: UpdateReads,
 }
@@ -183,6 +186,7 @@ impl ProposedAmounts {
             versions: Vec::with_capacity(alloc, capacity)?,
             starts: Vec::with_capacity(alloc, query.update_count().saturating_add(1))?,
             current: Vec::with_capacity(alloc, items)?,
+            targets: vec![in alloc; 0; query.update_count()]?,
             reads: UpdateReads::new(alloc),
         };
         for x in 0..query.items() {
@@ -408,6 +412,29 @@ impl ProposedAmounts {
         sums
     }
 
+    /// Returns whether an update that the sweep has passed overwrites a target.
+    pub fn overwrites_target(&self, update: u16) -> bool {
+        self.targets
+            .get(update as usize)
+            .is_some_and(|targets| 0 < *targets)
+    }
+
+    /// Notes that an update overwrites one more target, if `has_residual`.
+    fn add_target(&mut self, update: u16, has_residual: bool) {
+        let i = update as usize;
+        if has_residual && i < self.targets.len() {
+            self.targets[i] = self.targets[i].saturating_add(1);
+        }
+    }
+
+    /// Notes that an update overwrites one target less, if `had_residual`.
+    fn remove_target(&mut self, update: u16, had_residual: bool) {
+        let i = update as usize;
+        if had_residual && i < self.targets.len() {
+            self.targets[i] = self.targets[i].saturating_sub(1);
+        }
+    }
+
     /// Moves the sweep back past a write: stores the current amount in the version, and makes the version that it overwrites
     /// current, with `overwritten_amount`.
     fn retreat(
@@ -420,6 +447,8 @@ impl ProposedAmounts {
     ) {
         let current = self.current_version(x);
         let cost = version.amount;
+        self.remove_target(current.neighbor, current.amount < current.cost);
+        self.add_target(update, overwritten_amount < cost);
         let passed = version
             .with_amount(current.amount)
             .with_residual(overwritten_amount < cost)
@@ -508,6 +537,10 @@ impl ProposedAmounts {
         let amount = current.amount.saturating_add(more);
         self.set_current(x, CurrentVersion { amount, ..current });
         self.set_residual(current.overwriting, amount < current.cost);
+        self.remove_target(
+            current.neighbor,
+            current.amount < current.cost && current.cost <= amount,
+        );
     }
 
     /// Sets whether the version that a version overwrites has residual capacity.

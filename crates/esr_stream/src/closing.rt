@@ -2,14 +2,14 @@
 //!
 //! A predecessor of an update has a lower position in commit order, so one pass back along the updates closes the set. The
 //! pass records the items that the marked updates visited so far, which are later in commit order, have read and written.
-ghost use Rattle.std.specs.Prelude.{◌≡◌, ◌<◌, ◌||◌, ℕ, ℤ, All, IfOk, false, length, map, true};
+ghost use Rattle.std.specs.Prelude.{◌≡◌, ◌≤◌, ◌<◌, ◌||◌, ℕ, ℤ, All, IfOk, false, length, map, true};
 ghost use Rattle.std.specs.List.{list_any};
 ghost use Rattle.esr_history.specs.Queries.{must};
 ghost use Rattle.esr_order.specs.Placements.{IsClosed};
 ghost use Rattle.esr_order.specs.BackwardSearch.{conflicts_with, is_access, marked};
 ghost use Rattle.esr_bound.specs.Amounts.{AreForced, among_marked};
 ghost use Rattle.esr_stream.specs.Closing.{IsAdded, seen_later};
-ghost use Rattle.esr_stream.specs.Passes.{IsPrefixMarked, StayMarked};
+ghost use Rattle.esr_stream.specs.Passes.{IsPrefixMarked, NoneMarkedFrom, StayMarked};
 ghost use Rattle.esr_stream.specs.Query.{updates_of};
 
 use crate::query::AuditedQuery;
@@ -111,9 +111,9 @@ fn has_added(added: bool, is_member: bool, was_member: bool) -> bool {
     added || is_member != was_member
 }
 
-/// Marks the updates that precede marked updates, if all updates before the position `from` are marked. Returns whether it
-/// marked any. In `forced`, `n` is the number of items, `C x v` the cost of the version `v` of item `x`, and `worth` any
-/// cost.
+/// Marks the updates that precede marked updates, if all updates before the position `from` and none from `to` on are marked.
+/// Returns whether it marked any. In `forced`, `n` is the number of items, `C x v` the cost of the version `v` of item `x`, and
+/// `worth` any cost.
 ///
 /// # Errors
 ///
@@ -122,14 +122,18 @@ pub fn close<M: Metric>(
     alloc: Global,
     query: &AuditedQuery<M>,
     from: usize,
+    to: usize,
     marks: &mut [bool],
 ) -> Result<bool, AllocError>
+    requires to { to ≤ length (updates_of query.now) }
     requires marks { length marks.old ≡ length (updates_of query.now) }
+    requires none_marked { NoneMarkedFrom to marks.old }
     ensures len { length marks.new ≡ length marks.old }
     ensures stay { StayMarked marks.old marks.new }
     ensures forced { IfOk result (λ _. (n worth : ℕ) (C : ℕ → ℤ → ℕ)
         → AreForced n C query.now.schedule query.now.query worth marks.old
         → AreForced n C query.now.schedule query.now.query worth marks.new) }
+    ensures none_marked { NoneMarkedFrom to marks.new }
     ensures closed { IfOk result (λ _. IsPrefixMarked (length (must query.now.schedule query.now.query)) marks.old
         → IsPrefixMarked from marks.old → IsClosed query.now.schedule query.now.query (among_marked (updates_of query.now) marks.new)) }
 {
@@ -137,7 +141,7 @@ pub fn close<M: Metric>(
     let mut later = no_later(alloc, query.items())?;
     let mut list = Vec::new(alloc);
     let mut added = false;
-    for i in (from..query.update_count()).rev() {
+    for i in (from..to).rev() {
         let row = query.accesses(i, &mut list)?;
         let is_member = later.is_member(row, marks[i]);
         added = has_added(added, is_member, marks[i]);

@@ -23,6 +23,8 @@ pub struct Reached {
     pub steps: u16,
     /// How many accesses of the update have been followed: first its versions, then its reads.
     pub place: u16,
+    /// The least bound of the updates to which these lead.
+    pub low: u16,
 }
 
 /// A reached update whose arcs are followed.
@@ -87,6 +89,7 @@ impl Frontier {
             next: NO_ENTRY,
             steps: 0,
             place: 0,
+            low: u16::MAX,
         })?;
         Ok(())
     }
@@ -119,6 +122,7 @@ impl Frontier {
             next,
             steps,
             place: 0,
+            low: u16::MAX,
         })?;
         Ok(whole == self.least)
     }
@@ -133,12 +137,13 @@ impl Frontier {
         self.reached.get(entry as usize).copied()
     }
 
-    /// Sets how many accesses of an update have been followed.
-    pub fn set_place(&mut self, entry: u16, place: usize) {
+    /// Sets how many accesses of an update have been followed, and the least bound of the updates to which these lead.
+    pub fn set_place(&mut self, entry: u16, place: usize, low: u16) {
         let entry = entry as usize;
         if entry < self.reached.len() {
             // from a place past the maximum, the scan repeats some accesses
             self.reached[entry].place = u16::try_from(place).unwrap_or(u16::MAX);
+            self.reached[entry].low = low;
         }
     }
 

@@ -3,7 +3,7 @@ ghost use Rattle.std.specs.Prelude.{◌≡◌, ◌≤◌, ◌<◌, ◌&&◌, ◌
 ghost use Rattle.std.specs.List.{list_any};
 ghost use Rattle.esr_items.specs.Values.{IsValue};
 ghost use Rattle.esr_order.specs.declared.accesses.Access.{Access as AccessValue};
-ghost use Rattle.esr_stream.specs.Passes.{AreStates, HasReadReason, IsReadOf, IsUpdateApplied, ItemState as StateValue, amounts_sum, as_covered, costs_sum, has_slack_at, has_write_reason, is_owed_at, loans_sum, read_amount};
+ghost use Rattle.esr_stream.specs.Passes.{AreStates, HasReadReason, IsReadOf, IsUpdateApplied, ItemState as StateValue, amounts_sum, as_covered, costs_sum, has_slack_at, has_write_reason, is_owed_at, loans_sum, read_amount, unowed_at};
 ghost use Rattle.esr_stream.specs.Query.{cost_in};
 
 use crate::amounts::Version;
@@ -322,6 +322,28 @@ pub fn covered_copy(alloc: Global, states: &[ItemState]) -> Result<Vec<ItemState
             ..*state
         })
         .collect(alloc)
+}
+
+/// Returns whether two states have the same amount and the same loans.
+fn has_same_amount(a: ItemState, b: ItemState) -> bool
+    ensures { result ≡ true → (a.amount ≡ b.amount) × (a.loan ≡ b.loan) }
+{
+    a.amount == b.amount && a.loan == b.loan
+}
+
+/// Returns whether the states have the same amounts and loans.
+pub fn have_same_amounts(a: &[ItemState], b: &[ItemState]) -> bool
+    ensures { result ≡ true → (x : ℕ) → unowed_at a.now x ≡ unowed_at b.now x }
+{
+    if a.len() != b.len() {
+        return false;
+    }
+    for x in 0..a.len() {
+        if !has_same_amount(a[x], b[x]) {
+            return false;
+        }
+    }
+    true
 }
 
 /// Returns the sum of the costs, or `None` if it does not fit.

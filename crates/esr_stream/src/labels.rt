@@ -2,7 +2,7 @@
 use std::alloc::{AllocError, Global};
 
 /// The bound of an update from which no search can succeed.
-const DEAD: u16 = u16::MAX;
+pub const DEAD: u16 = u16::MAX;
 
 /// What the searches know of an update. These four bytes are all that an update takes that the current search has not reached.
 #[derive(Clone, Copy)]
@@ -54,19 +54,26 @@ impl Labels {
         self.search_number = 0;
     }
 
-    /// Notes that the current search reaches an update. Returns its bound, or `None` if the search has reached it before or no
-    /// search can succeed from it.
-    pub fn reach(&mut self, update: u16) -> Option<u16> {
+    /// Returns the bound of an update, or `DEAD`.
+    pub fn bound(&self, update: u16) -> u16 {
+        self.labels
+            .get(update as usize)
+            .map_or(DEAD, |label| label.bound)
+    }
+
+    /// Notes that the current search reaches an update. Returns whether it has not reached it before and a search can succeed from
+    /// it.
+    pub fn reach(&mut self, update: u16) -> bool {
         let i = update as usize;
         if self.labels.len() <= i {
-            return None;
+            return false;
         }
         let label = self.labels[i];
         if label.bound == DEAD || label.last_search == self.search_number {
-            return None;
+            return false;
         }
         self.labels[i].last_search = self.search_number;
-        Some(label.bound)
+        true
     }
 
     /// Raises the bound of an update, at least to `bound`.

@@ -183,16 +183,11 @@ fn find_with_amounts<M: Metric>(
         return Ok(None);
     };
     let checkpoint = checkpoint_of(query, first);
-    let found = mark_least(
-        alloc,
-        query,
-        first,
-        checkpoint,
-        proposed,
-        start_states,
-        worth,
-        marks,
-    )?;
+    let start = MarkedPrefix {
+        len: first,
+        states: start_states,
+    };
+    let found = mark_least(alloc, query, start, checkpoint, proposed, worth, marks)?;
     let Some(prefix) = found else {
         return Ok(None);
     };

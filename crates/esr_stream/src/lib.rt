@@ -12,10 +12,12 @@
 //! every closed set costs at least S (`esr_bound`). The pass also marks updates that every closed set of cost S contains, and
 //! `close` adds their predecessors. If `close` adds an update, another pass follows. It keeps all marks, and it need not visit
 //! all updates again: if all updates before a position are marked, every closed set of cost S contains them, as if they were
-//! mandatory. So the pass starts from the states at that position, provided that their amounts sum to at least S. If the passes
-//! visit more than 64 times as many updates as there are (`MAX_VISITS_PER_UPDATE`), the search ends without a result. When
-//! `close` adds none and the cost of the marked set equals S, the marked set is the result. In each other case `least_of`
-//! returns `None`, and the caller solves the closure problem of the query (`esr_audit`).
+//! mandatory. So the pass starts from the states at that position, provided that their amounts sum to at least S. Nor need it
+//! visit all later updates: after many updates in a row without a mark it ends early, and a later pass, which has to have the same
+//! amounts there, continues (`rounds`). If the passes visit more than 64 times as many updates as there are
+//! (`MAX_VISITS_PER_UPDATE`), the search ends without a result. When `close` adds none and the cost of the marked set equals S,
+//! the marked set is the result. In each other case `least_of` returns `None`, and the caller solves the closure problem of the
+//! query (`esr_audit`).
 //!
 //! The proof covers the pass and not the proposed amounts, so the proposal can change without a new theorem. Costs are never
 //! negative, but amounts can be. So costs and amounts are stored as unsigned integers with `OFFSET` added. Rejected design: a

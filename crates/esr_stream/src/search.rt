@@ -24,10 +24,10 @@
 //! explores all updates that are nearer to the source than the target is.
 use crate::amounts::{NOBODY, ProposedAmounts, Version};
 use crate::frontier::{Frontier, NO_ENTRY, Origin, Reached};
-use crate::labels::Labels;
+use crate::labels::{DEAD, Labels};
 use crate::query::AuditedQuery;
 use crate::residual::ResidualArc;
-use crate::update_reads::{UpdateRead, UpdateReads};
+use crate::update_reads::UpdateRead;
 use esr_items::{ItemId, Metric};
 use esr_order::Access;
 use std::alloc::{AllocError, Global};
@@ -66,6 +66,8 @@ pub struct SearchState {
     frontier: Frontier,
     /// The residual capacities of the arcs of the current path, from its end.
     capacities: Vec<u64>,
+    /// The least bound of the updates to which the update leads whose arcs are followed.
+    low: u16,
 }
 
 impl SearchState {
@@ -80,13 +82,15 @@ impl SearchState {
             labels: Labels::new(alloc, updates)?,
             frontier: Frontier::new(alloc, updates)?,
             capacities: Vec::new(alloc),
+            low: DEAD,
         })
     }
 
     /// Begins a search from an update with an excess.
     fn begin(&mut self, source: u16) -> Result<(), AllocError> {
         self.labels.begin_search();
-        let bound = self.labels.reach(source).unwrap_or(1);
+        let bound = self.labels.bound(source);
+        self.labels.reach(source);
         self.frontier.begin(source, bound)
     }
 
@@ -94,13 +98,16 @@ impl SearchState {
     /// Returns whether the search continues there at once.
     fn follow(
         &mut self,
+        amounts: &ProposedAmounts,
         origin: Origin,
         arc: ResidualArc,
         update: u16,
     ) -> Result<bool, AllocError> {
-        let Some(bound) = self.labels.reach(update) else {
+        let bound = bound_now(amounts, update, self.labels.bound(update));
+        self.low = self.low.min(bound);
+        if !self.labels.reach(update) {
             return Ok(false);
-        };
+        }
         self.frontier.push(origin, arc, update, bound)
     }
 
@@ -108,7 +115,7 @@ impl SearchState {
     /// continues at one of them at once.
     fn follow_version(
         &mut self,
-        reads: &UpdateReads,
+        amounts: &ProposedAmounts,
         origin: Origin,
         id: u32,
         version: Version,
@@ -116,18 +123,18 @@ impl SearchState {
         let mut continues = false;
         if version.can_increase_overwritten() {
             let arc = ResidualArc::Increase(id);
-            continues = self.follow(origin, arc, version.overwritten_writer)?;
+            continues = self.follow(amounts, origin, arc, version.overwritten_writer)?;
         }
         if version.overwriter != NOBODY && 0 < version.amount {
             let arc = ResidualArc::Decrease(id);
-            continues |= self.follow(origin, arc, version.overwriter)?;
+            continues |= self.follow(amounts, origin, arc, version.overwriter)?;
         }
-        if reads.is_empty() {
+        if amounts.reads.is_empty() {
             return Ok(continues);
         }
-        continues |= self.follow_readers(reads, origin, id)?;
+        continues |= self.follow_readers(amounts, origin, id)?;
         if version.may_repay() {
-            continues |= self.follow_borrowers(reads, origin, version.overwritten())?;
+            continues |= self.follow_borrowers(amounts, origin, version.overwritten())?;
         }
         Ok(continues)
     }
@@ -136,18 +143,19 @@ impl SearchState {
     /// itself has to carry.
     fn follow_readers(
         &mut self,
-        reads: &UpdateReads,
+        amounts: &ProposedAmounts,
         origin: Origin,
         version: u32,
     ) -> Result<bool, AllocError> {
         let mut continues = false;
+        let reads = &amounts.reads;
         let mut next = reads.first_of_version(version);
         for _ in 0..reads.len() {
             let Some(read) = reads.get(next) else {
                 return Ok(continues);
             };
             self.visits_left = self.visits_left.saturating_sub(1);
-            continues |= self.follow(origin, ResidualArc::Raise(next), read.reader)?;
+            continues |= self.follow(amounts, origin, ResidualArc::Raise(next), read.reader)?;
             next = reads.next_of(read);
         }
         Ok(continues)
@@ -156,11 +164,12 @@ impl SearchState {
     /// Follows the arcs to the readers with a loan from a version that an update overwrites: each loan can decrease.
     fn follow_borrowers(
         &mut self,
-        reads: &UpdateReads,
+        amounts: &ProposedAmounts,
         origin: Origin,
         version: u32,
     ) -> Result<bool, AllocError> {
         let mut continues = false;
+        let reads = &amounts.reads;
         let mut next = reads.first_of_version(version);
         for _ in 0..reads.len() {
             let Some(read) = reads.get(next) else {
@@ -168,7 +177,7 @@ impl SearchState {
             };
             self.visits_left = self.visits_left.saturating_sub(1);
             if 0 < read.loan {
-                continues |= self.follow(origin, ResidualArc::Repay(next), read.reader)?;
+                continues |= self.follow(amounts, origin, ResidualArc::Repay(next), read.reader)?;
             }
             next = reads.next_of(read);
         }
@@ -178,16 +187,17 @@ impl SearchState {
     /// Follows the arcs of a read of an update: to the overwriter of the version, and to the writer if the read raises its amount.
     fn follow_read(
         &mut self,
+        amounts: &ProposedAmounts,
         origin: Origin,
         r: u32,
         read: UpdateRead,
     ) -> Result<bool, AllocError> {
         let mut continues = false;
         if read.overwriter != NOBODY {
-            continues = self.follow(origin, ResidualArc::Borrow(r), read.overwriter)?;
+            continues = self.follow(amounts, origin, ResidualArc::Borrow(r), read.overwriter)?;
         }
         if 0 < read.raise && read.writer != NOBODY {
-            continues |= self.follow(origin, ResidualArc::Lower(r), read.writer)?;
+            continues |= self.follow(amounts, origin, ResidualArc::Lower(r), read.writer)?;
         }
         Ok(continues)
     }
@@ -207,6 +217,7 @@ impl SearchState {
             entry,
             steps: reached.steps,
         };
+        self.low = reached.low;
         let versions = amounts.versions_of(reached.update);
         let place = reached.place as usize;
         let mut id = amounts
@@ -218,11 +229,12 @@ impl SearchState {
             if version.can_increase_overwritten()
                 && is_unpassed(version.overwritten_writer, source)
             {
-                self.frontier.set_place(entry, j);
+                self.frontier.set_place(entry, j, self.low);
                 return Ok(Scan::Target(j));
             }
-            if self.follow_version(&amounts.reads, origin, id, version)? {
-                self.frontier.set_place(entry, j.saturating_add(1));
+            if self.follow_version(amounts, origin, id, version)? {
+                self.frontier
+                    .set_place(entry, j.saturating_add(1), self.low);
                 return Ok(Scan::Paused);
             }
             id = id.saturating_add(1);
@@ -230,17 +242,18 @@ impl SearchState {
         if amounts.reads.is_empty() {
             return Ok(Scan::Finished);
         }
-        self.scan_reads(&amounts.reads, origin, reached, versions.len())
+        self.scan_reads(amounts, origin, reached, versions.len())
     }
 
     /// Follows the arcs of the reads of a reached update. `versions` is the number of its versions.
     fn scan_reads(
         &mut self,
-        reads: &UpdateReads,
+        amounts: &ProposedAmounts,
         origin: Origin,
         reached: Reached,
         versions: usize,
     ) -> Result<Scan, AllocError> {
+        let reads = &amounts.reads;
         let own = reads.of_update(reached.update);
         let first = (reached.place as usize).saturating_sub(versions);
         let mut r = reads
@@ -248,14 +261,26 @@ impl SearchState {
             .saturating_add(u32::try_from(first).unwrap_or(u32::MAX));
         for j in first..own.len() {
             self.visits_left = self.visits_left.saturating_sub(1);
-            if self.follow_read(origin, r, own[j])? {
-                self.frontier
-                    .set_place(origin.entry, versions.saturating_add(j).saturating_add(1));
+            if self.follow_read(amounts, origin, r, own[j])? {
+                self.frontier.set_place(
+                    origin.entry,
+                    versions.saturating_add(j).saturating_add(1),
+                    self.low,
+                );
                 return Ok(Scan::Paused);
             }
             r = r.saturating_add(1);
         }
         Ok(Scan::Finished)
+    }
+
+    /// Ends the expansion of an update. It is one arc farther from a target than the nearest of the updates to which it leads.
+    fn finish(&mut self, entry: u16) {
+        if let Some(reached) = self.frontier.get(entry) {
+            self.labels
+                .raise_bound(reached.update, self.low.saturating_add(1));
+        }
+        self.frontier.finish(entry);
     }
 
     /// Raises the bounds of the expanded updates after a search that found a target.
@@ -383,7 +408,7 @@ impl SearchState {
             };
             match self.scan(amounts, source, entry)? {
                 Scan::Paused => {}
-                Scan::Finished => self.frontier.finish(entry),
+                Scan::Finished => self.finish(entry),
                 Scan::Target(j) => {
                     let routed = self.route(query, amounts, entry, j, left, buffer)?;
                     left = left.saturating_sub(routed.amount);
@@ -422,6 +447,15 @@ impl SearchState {
             excess = self.search(query, amounts, update, excess, buffer)?;
         }
         Ok(())
+    }
+}
+
+/// Returns the bound of an update: if it overwrites no target, none is one arc away.
+fn bound_now(amounts: &ProposedAmounts, update: u16, bound: u16) -> u16 {
+    if bound <= 1 && !amounts.overwrites_target(update) {
+        2
+    } else {
+        bound
     }
 }
 

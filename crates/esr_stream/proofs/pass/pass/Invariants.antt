@@ -1,5 +1,5 @@
-use Rattle.std.proofs.Common.{◌≡◌, ℕ, Bool, List, length}
-use Rattle.esr_stream.specs.Passes.{IsPassInvariant, StayMarked}
+use Rattle.std.proofs.Common.{◌≡◌, length}
+use Rattle.esr_stream.specs.Passes.{KeepsEnough, KeepsInvariant, StayMarked}
 use Rattle.esr_stream.specs.Query.{cost_in}
 use Rattle.esr_stream.proofs.pass.pass.Given as goal
 
@@ -8,6 +8,6 @@ invariant-loop-i g l = record {
   len : length l.states ≡ length l.query.schedule.opening;
   marks : length l.marks ≡ length l.fn.marks;
   stay : StayMarked l.fn.marks l.marks;
-  passed : (worth : ℕ) (seeds : List Bool) → IsPassInvariant (length l.query.schedule.opening) (cost_in g.M.Metric.distance_by l.query) l.query.schedule l.query.query worth l.from seeds l.fn.marks l.fn.states
-      → IsPassInvariant (length l.query.schedule.opening) (cost_in g.M.Metric.distance_by l.query) l.query.schedule l.query.query worth l.i seeds l.marks l.states;
+  passed : KeepsInvariant (length l.query.schedule.opening) (cost_in g.M.Metric.distance_by l.query) l.query.schedule l.query.query l.from l.i l.fn.marks l.fn.states l.marks l.states;
+  enough : KeepsEnough (length l.query.schedule.opening) (cost_in g.M.Metric.distance_by l.query) l.query.schedule l.query.query l.from l.i l.fn.marks l.fn.states l.states;
 }

@@ -1,56 +1,63 @@
-use Rattle.std.proofs.Common.{◌∙◌, ◌+◌, ◌≤◌, ℕ, Bool, List, Vec, Global, IfSome, refl, sym, ap, subst, arith, length}
+use Rattle.std.proofs.Common.{◌≡◌, ◌∙◌, ◌≤◌, ℕ, Bool, List, Option, Some, IfSome, subst, arith, length}
 use Rattle.esr_history.specs.Queries.{updates_committed_before}
-use Rattle.esr_bound.specs.Amounts.{Shows}
-use Rattle.esr_stream.specs.Passes.{IsPrefixMarked, AreStates, ItemState, IsPassInvariant, amounts_sum, loans_sum}
+use Rattle.esr_stream.specs.Passes.{AreEnough, HasStates, IsEnough, IsPassInvariant, KeepsInvariant, NoneMarkedFrom, unowed_at}
 use Rattle.esr_stream.specs.Query.{cost_in}
-use Rattle.esr_stream.proofs.PassLaws.{passed_from, passed_end}
-use Rattle.esr_stream.proofs.rounds.round.Given.{Over}
+use Rattle.esr_stream.specs.declared.rounds.Stops.{Stops}
+use Rattle.esr_stream.proofs.PassLaws.{last_within, passed_from_copy, stop_shows}
 use Rattle.esr_stream.proofs.rounds.round.Goals as goal
 
-pub pass_with_checkpoint-requires-clause-states : goal.pass_with_checkpoint-requires-clause-states
-pass_with_checkpoint-requires-clause-states g c =
-    ap (λ (l : List ItemState). length l) (c.deref_mut.ensures.value ∙ c.in_ok-states.ensures) ∙ (c.requires.start_states c.args.marks.now c.requires.prefix_marked).len
+-- a fact about what is found
+of_some : (P : Stops → Type 0) (o : Option Stops) (x : Stops) → o ≡ Some x → IfSome o P → P x
+of_some P o x is fact = subst (λ o. IfSome o P) is fact
 
-pub returns-clause-stay : goal.returns-clause-stay
-returns-clause-stay g c = λ i m. c.close.ensures.stay i (c.pass_with_checkpoint.ensures.stay i m)
-
--- the invariant before the pass
-started : (g : Over) (c : goal.After-drop-states-2 g) (worth : ℕ) → worth + loans_sum c.args.start_states.now ≤ amounts_sum c.args.start_states.now
-    → IsPassInvariant (length c.args.query.now.schedule.opening) (cost_in g.M.Metric.distance_by c.args.query.now) c.args.query.now.schedule c.args.query.now.query worth c.args.from c.args.marks.now c.args.marks.now c.deref_mut.result.now
-started g c worth low =
-    let h = c.args.query.now.schedule in
-    let q = c.args.query.now.query in
-    let C = cost_in g.M.Metric.distance_by c.args.query.now in
-    let seeds = c.args.marks.now in
-    let inside : c.args.from ≤ length (updates_committed_before h q) = omega (arith, c.requires.from_le_checkpoint, c.requires.checkpoint_le_len) in
-    subst (λ (l : List ItemState). IsPassInvariant (length h.opening) C h q worth c.args.from seeds seeds l) (sym (c.deref_mut.ensures.value ∙ c.in_ok-states.ensures))
-    (passed_from g.M.Metric.distance_by h q c.history-invariant.ensures.legal C c.args.from worth seeds c.args.start_states.now inside c.requires.prefix_marked low (c.requires.start_states seeds c.requires.prefix_marked))
-
-pub returns-clause-forced_and_closed : goal.returns-clause-forced_and_closed
-returns-clause-forced_and_closed g c = λ worth low forced.
-    let h = c.args.query.now.schedule in
-    let d = g.M.Metric.distance_by in
-    let q = c.args.query.now.query in
+pub close-requires-clause-none_marked : goal.close-requires-clause-none_marked
+close-requires-clause-none_marked g c = λ j l.
+    let a = c.args.query.now in
+    let h = a.schedule in
     let n = length h.opening in
-    let m = length (updates_committed_before h q) in
-    let C = cost_in g.M.Metric.distance_by c.args.query.now in
-    let seeds = c.args.marks.now in
-    let passed : (w : ℕ) (ss : List Bool) → IsPassInvariant n C h q w c.args.from ss seeds c.deref_mut.result.now → IsPassInvariant n C h q w m ss c.pass_with_checkpoint.new.marks c.pass_with_checkpoint.new.states =
-    subst (λ o. IfSome o (λ (v : Vec ItemState Global). (w : ℕ) (ss : List Bool) → IsPassInvariant n C h q w c.args.from ss seeds c.deref_mut.result.now → IsPassInvariant n C h q w m ss c.pass_with_checkpoint.new.marks c.pass_with_checkpoint.new.states)) c.in-Some.is c.in_ok-found.ensures.pass_invariant in
-    let shows : Shows n C h q worth seeds c.pass_with_checkpoint.new.marks = passed_end d h q c.history-invariant.ensures.legal C worth m seeds c.pass_with_checkpoint.new.marks c.pass_with_checkpoint.new.states refl (passed worth seeds (started g c worth low)) in
-    record {
-      bound = shows.bound forced;
-      forced = c.in_ok-has_added.ensures.forced n worth C (shows.forced forced);
-      closed = c.in_ok-has_added.ensures.closed (λ i l. c.pass_with_checkpoint.ensures.stay i (c.requires.prefix_marked i (omega (arith, l, c.requires.mandatory_within)))) c.marked_prefix_len-prefix.ensures.prefix_marked;
-    }
+    let C = cost_in g.M.Metric.distance_by a in
+    let m = c.args.marks.now in
+    let stops : Stops = c.in-Some.stops in
+    let inside : c.args.from ≤ length (updates_committed_before h a.query) = omega (arith, c.requires.from_le_first, c.requires.first_le_second, c.requires.second_le_len) in
+    let passed = of_some (λ t. KeepsInvariant n C h a.query c.args.from t.end.len m c.deref_mut.result.now c.pass_with_stops.new.marks c.pass_with_stops.new.states) _ _ c.in-Some.is c.in_ok-found.ensures.pass_invariant in
+    let p = passed 0 m (passed_from_copy g.M.Metric.distance_by h a.query c.history-invariant.ensures.legal C c.args.from 0 m c.args.start_states.now c.deref_mut.result.now (c.deref_mut.ensures.value ∙ c.in_ok-states.ensures) inside c.requires.prefix_marked (omega (arith, c.requires.loans_within_amounts)) (c.requires.start_states m c.requires.prefix_marked)) in
+    let last = last_within h a.query C stops.first stops.second stops.end c.args.last_end.now
+    (of_some (λ t. t.first.len ≤ t.second.len) _ _ c.in-Some.is c.in_ok-found.ensures.second) (of_some (λ t. t.second.len ≤ t.end.len) _ _ c.in-Some.is c.in_ok-found.ensures.end) (c.has_stop.ensures c.if-not-has_stop.false) in
+    p.later j l ∙ c.requires.none_marked j (omega (arith, l, last))
 
-pub returns-clause-checkpoint : goal.returns-clause-checkpoint
-returns-clause-checkpoint g c = λ ms firsts.
-    let h = c.args.query.now.schedule in
-    let q = c.args.query.now.query in
+pub returns-clause-forced : goal.returns-clause-forced
+returns-clause-forced g c = λ worth low prior enough.
+    let a = c.args.query.now in
+    let h = a.schedule in
+    let q = a.query in
     let n = length h.opening in
-    let C = cost_in g.M.Metric.distance_by c.args.query.now in
-    let seeds = c.args.marks.now in
-    let kept : (w : ℕ) (ss ms : List Bool) → IsPassInvariant n C h q w c.args.from ss seeds c.deref_mut.result.now → IsPrefixMarked c.args.checkpoint ms → AreStates C h q c.args.checkpoint ms c.in-Some.kept.items =
-    subst (λ o. IfSome o (λ (v : Vec ItemState Global). (w : ℕ) (ss ms : List Bool) → IsPassInvariant n C h q w c.args.from ss seeds c.deref_mut.result.now → IsPrefixMarked c.args.checkpoint ms → AreStates C h q c.args.checkpoint ms v.items)) c.in-Some.is c.in_ok-found.ensures.checkpoint in
-    kept 0 seeds ms (started g c 0 (omega (arith, c.requires.loans_within_amounts))) firsts
+    let C = cost_in g.M.Metric.distance_by a in
+    let m = c.args.marks.now in
+    let s0 = c.deref_mut.result.now in
+    let m1 = c.pass_with_stops.new.marks in
+    let s1 = c.pass_with_stops.new.states in
+    let stops : Stops = c.in-Some.stops in
+    let inside : c.args.from ≤ length (updates_committed_before h q) = omega (arith, c.requires.from_le_first, c.requires.first_le_second, c.requires.second_le_len) in
+    let started = passed_from_copy g.M.Metric.distance_by h q c.history-invariant.ensures.legal C c.args.from worth m c.args.start_states.now s0 (c.deref_mut.ensures.value ∙ c.in_ok-states.ensures) inside c.requires.prefix_marked low (c.requires.start_states m c.requires.prefix_marked) in
+    let passed = of_some (λ t. KeepsInvariant n C h q c.args.from t.end.len m s0 m1 s1) _ _ c.in-Some.is c.in_ok-found.ensures.pass_invariant in
+    let at_end = passed worth m started in
+    let same = c.has_stop.ensures c.if-not-has_stop.false in
+    let last = last_within h q C stops.first stops.second stops.end c.args.last_end.now
+    (of_some (λ t. t.first.len ≤ t.second.len) _ _ c.in-Some.is c.in_ok-found.ensures.second) (of_some (λ t. t.second.len ≤ t.end.len) _ _ c.in-Some.is c.in_ok-found.ensures.end) same in
+    let none : NoneMarkedFrom stops.end.len m1 = λ j l. at_end.later j l ∙ c.requires.none_marked j (omega (arith, l, last)) in
+    let all_enough = of_some (λ t. (w : ℕ) (ss : List Bool) → IsPassInvariant n C h q w c.args.from ss m s0 → IsEnough n C h q t.end → AreEnough n C h q t.end.len (unowed_at s1) × IsEnough n C h q t.first × IsEnough n C h q t.second) _ _ c.in-Some.is c.in_ok-found.ensures.enough worth m started enough in
+    let shown = stop_shows h q C worth stops.end.len m m1 s1 c.args.last_end.now stops.first stops.second none at_end all_enough same prior in
+    (c.in_ok-has_added.ensures.forced n worth C shown.0, shown.1)
+
+pub returns-clause-stops : goal.returns-clause-stops
+returns-clause-stops g c =
+    let a = c.args.query.now in
+    let h = a.schedule in
+    let q = a.query in
+    let n = length h.opening in
+    let C = cost_in g.M.Metric.distance_by a in
+    let m = c.args.marks.now in
+    let s0 = c.deref_mut.result.now in
+    let inside : c.args.from ≤ length (updates_committed_before h q) = omega (arith, c.requires.from_le_first, c.requires.first_le_second, c.requires.second_le_len) in
+    let started = passed_from_copy g.M.Metric.distance_by h q c.history-invariant.ensures.legal C c.args.from 0 m c.args.start_states.now s0 (c.deref_mut.ensures.value ∙ c.in_ok-states.ensures) inside c.requires.prefix_marked (omega (arith, c.requires.loans_within_amounts)) (c.requires.start_states m c.requires.prefix_marked) in
+    of_some (λ t. (w : ℕ) (ss : List Bool) → IsPassInvariant n C h q w c.args.from ss m s0 → HasStates C h q t.first × HasStates C h q t.second) _ _ c.in-Some.is c.in_ok-found.ensures.stops 0 m started

@@ -1,5 +1,0 @@
-use Rattle.esr_stream.specs.Passes.{IsPrefixMarked}
-use Rattle.esr_stream.proofs.rounds.is_prefix_marked.Given as goal
-
-abbrev pub invariant-loop-i : goal.invariant-loop-i
-invariant-loop-i l = IsPrefixMarked l.i l.marks
