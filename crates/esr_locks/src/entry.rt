@@ -104,6 +104,7 @@ impl LockEntry {
     }
 
     /// Returns the smallest reader other than `t` if read locks conflict with this mode.
+    #[inline(always)]
     fn blocking_reader(&self, t: TxnId, asked: Mode) -> Option<TxnId>
         ensures { IsSmallest (λ u. not (u == t.0) && (conflicts Mode.Read asked && is_reader self.now.locks u))
             (option_map (λ u. u.0) result) }

@@ -112,16 +112,24 @@ pub fn reserve_one<T: MadeWith<Global> + Drop, const N: usize>(
 }
 
 /// Returns the first reader other than `t`.
+#[inline(always)]
 pub fn other_reader(readers: &[Reader], t: TxnId) -> Option<TxnId>
     ensures { result ≡ option_map (λ r. r.update) (find (λ r. not (r.update.0 == t.0)) readers.now) }
 {
+    if readers.is_empty() {
+        return None;
+    }
     readers.iter().find(|r| r.update.0 != t.0).map(|r| r.update)
 }
 
 /// Returns whether `t` is a reader.
+#[inline(always)]
 pub fn is_reader(readers: &[Reader], t: TxnId) -> bool
     ensures { result ≡ list_any (λ r. r.update.0 == t.0) readers.now }
 {
+    if readers.is_empty() {
+        return false;
+    }
     readers.iter().any(|r| r.update.0 == t.0)
 }
 

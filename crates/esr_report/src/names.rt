@@ -108,12 +108,13 @@ impl Names {
         }
     }
 
-    /// Returns the position of the name with this key, if it is bound.
+    /// Returns the position of the name, if it is bound, by the hash table.
     #[inline(never)]
-    fn search(&self, key: Key) -> Option<u32>
-        ensures { (name : List ℕ) → IsKeyOf key name → result ≡ position_of self.now name }
+    fn search(&self, name: &str) -> Option<u32>
+        requires { length name.now ≤ 16 }
+        ensures { result ≡ position_of self.now name.now }
     {
-        match self.names.get_index_of(&key) {
+        match self.names.get_index_of(&key_of(name)) {
             Some(position) => Some(position as u32),
             None => None,
         }
@@ -131,7 +132,7 @@ impl Names {
         let key = key_of(name);
         match self.cached_position(key) {
             Some(position) => Some(position),
-            None => self.search(key),
+            None => self.search(name),
         }
     }
 

@@ -15,6 +15,4 @@ returns-in-Some c =
     sym (c.in-Some.ensures c.args.name.now key)
 
 pub returns-in-None : goal.returns-in-None
-returns-in-None c =
-    let key : IsKeyOf c.key_of-key.result c.args.name.now = record { short = c.if-name-gt16.false; bytes = λ i. omega (arith, c.type_inv.name i); low = c.key_of-key.ensures.low; high = c.key_of-key.ensures.high; length = c.key_of-key.ensures.length } in
-    c.search.ensures c.args.name.now key
+returns-in-None c = c.search.ensures
