@@ -1,7 +1,8 @@
 -- Bytes ahead in a buffer, from a start to an end.
 use Rattle.std.proofs.Common.{◌≡◌, ℕ, ◌+◌, ◌-◌, ◌≤◌, ◌<◌, List, [], ◌∷◌, ◌++◌, append-nil, length, take, drop, sym, ◌∙◌, ap, arith, length-drop, length-take, length-append}
 use borrow.Rule.Slice.PartMut.{put_mid, post_of, mid_of, same_len_mid}
-use Rattle.std.proofs.Math.Seq.{take-append_seam, take-append-add, drop-drop}
+use Rattle.std.proofs.Math.Seq.{take-append_seam, take-append-add, drop-drop, paste, take-paste}
+use Rattle.std.proofs.lemmas.List.Edits.{length-paste}
 use Rattle.std.proofs.lemmas.List.{drop-take, take-append-le, length-take-le}
 
 -- fewer bytes from the start on
@@ -14,15 +15,18 @@ skipped items ahead s e n order within is count_within_max =
     ∙ ap (λ k. drop n (take k (drop s items))) (sym parts) ∙ ap (drop n) is
 
 module _ (items moved ahead : List ℕ) (s e len : ℕ) (order : s ≤ e) (within : e ≤ length items) (is : take (e - s) (drop s items) ≡ ahead)
-    (turned : moved ≡ drop s items ++ take s items) (whole : len ≡ length items) where
+    (turned : moved ≡ paste items 0 (drop s items) (e - s)) (whole : len ≡ length items) where
   size : length ahead ≡ e - s
   size = ap length (sym is) ∙ length-take-le (e - s) (drop s items) (omega (arith, length-drop s items))
 
   long : length moved ≡ length items
-  long = ap length turned ∙ length-append (drop s items) (take s items) ∙ omega (arith, length-drop s items, length-take s items)
+  long = ap length turned ∙ length-paste items 0 (drop s items) (e - s) (omega (arith, within)) (omega (arith, length-drop s items, within))
 
   front : take (e - s) moved ≡ ahead
-  front = ap (take (e - s)) turned ∙ take-append-le (e - s) (drop s items) (take s items) (omega (arith, length-drop s items)) ∙ is
+  front =
+      let from_zero : e - s ≡ 0 + (e - s) = omega arith in
+      ap (take (e - s)) turned ∙ ap (λ k. take k (paste items 0 (drop s items) (e - s))) from_zero
+      ∙ take-paste items 0 (drop s items) (e - s) (omega arith) (omega (arith, length-drop s items, within)) ∙ is
 
   abbrev part : ℕ
   part = length moved - (e - s)

@@ -15,3 +15,4 @@ pub mod Audited
 pub mod Buffers
 pub mod Opens
 pub mod Kept
+pub mod Places

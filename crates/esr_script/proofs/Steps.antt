@@ -95,6 +95,14 @@ module _ (input : List ℕ) (n : ℕ) (s : ScriptState) (w : List ℕ) where
 
 -- ---- with the reader
 
+-- before the first line
+pub at_start : (input : List ℕ) (left : Option (List ℕ)) (bytes : List ℕ) (s : ScriptState) (w : List ℕ) → left ≡ Some input → bytes ≡ [] → s ≡ start → w ≡ []
+    → InputProgress input left bytes 0 s w
+at_start input left bytes s w known none new empty =
+    let nothing : Progress input input 0 start [] =
+    record { used = []; answered = []; split = refl; counted = refl; cut = λ b. refl; cut_whole = λ b. refl; reached = refl; ran = λ more. refl } in
+    record { rest = input; known = known; progress = rw (none, new, empty) nothing }
+
 -- more bytes came ahead
 pub advance : (input : List ℕ) (n : ℕ) (s : ScriptState) (w : List ℕ) (before after : Option (List ℕ)) (bytes grown more : List ℕ)
     → InputProgress input before bytes n s w → grown ≡ bytes ++ more → Consumes before after more → InputProgress input after grown n s w

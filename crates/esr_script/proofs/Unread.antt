@@ -17,3 +17,7 @@ module _ (s new : ScriptState) (line : List ℕ) (skipped : is_skipped line ≡ 
       → EndsIn (answer s line) new r
   executed c is (Ok done) out grown h = record { ok = (h.ok.0, rw (skipped, is) h.ok.1); faults = tt }
   executed c is (Err e) out grown h = record { ok = tt; faults = rw (skipped, is) h.faults }
+
+  pub answered : {T : Type 0} (c : Command) → reading line ≡ Some c → (r : Result T RunFault) (out grown : List ℕ) → Executes (execute s c) new out grown r
+      → Executes (answer s line) new out grown r
+  answered c is r out grown h = rw (skipped, is) h

@@ -18,3 +18,4 @@ pub mod Parts
 pub mod ReaderToWriter
 pub mod WorkedExamples
 pub mod Echoes
+pub mod Placed

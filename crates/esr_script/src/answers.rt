@@ -14,6 +14,7 @@ use crate::fault::RunFault;
 use crate::input::InputBuffer;
 use crate::script::Script;
 use crate::sink::{Audience, Sink};
+use crate::text_buffer::TextBuffer;
 use esr_grammar::{MAX_LINES, Next};
 use esr_lint::{LineOutcome, Observer};
 
@@ -61,11 +62,11 @@ fn answer<S: Sink, O: Observer>(
     count: u64,
     script: &mut Script,
     sink: &S,
-    out: &mut Vec<u8>,
+    out: &mut TextBuffer,
     observer: &mut O,
 ) -> Result<(), RunFault>
     requires { count ≤ MAX_LINES }
-    ensures { IsAnswer (S.contents sink.now) (answer script.old line.now) script.new out.old.items out.new.items result }
+    ensures { IsAnswer (S.contents sink.now) (answer script.old line.now) script.new out.old out.new result }
 {
     let audience = sink.audience();
     let answered = script.answer(line, audience, out);
@@ -84,19 +85,19 @@ pub fn answer_next<S: Sink, O: Observer>(
     count: u64,
     script: &mut Script,
     sink: &S,
-    out: &mut Vec<u8>,
+    out: &mut TextBuffer,
     observer: &mut O,
 ) -> Result<(), RunFault>
     requires next { IsNext next pending.old }
     requires is_complete { next ≢ Next.More }
     requires count { count ≤ MAX_LINES }
     ensures count_within_max { OnOk result (count ≢ MAX_LINES) }
-    ensures text { OnOk result ((text gone : List ℕ) × (out.old.items ++ text ≡ gone ++ out.new.items)
+    ensures text { OnOk result ((text gone : List ℕ) × (out.old ++ text ≡ gone ++ out.new)
         × IsUnread (S.contents sink.now) gone × ((input written : List ℕ) (left : Option (List ℕ)) → InputProgress input left pending.old count script.old written
         → InputProgress input left pending.new (count + 1) script.new (written ++ text))) }
     ensures held { IfErr result (λ e. (input sent : List ℕ) (left : Option (List ℕ))
-        → InputProgress input left pending.old count script.old (sent ++ out.old.items)
-        → (gone : List ℕ) × IsUnread (S.contents sink.now) gone × IsHeldRun input left out.new.items (Err e)
+        → InputProgress input left pending.old count script.old (sent ++ out.old)
+        → (gone : List ℕ) × IsUnread (S.contents sink.now) gone × IsHeldRun input left out.new (Err e)
         (sent ++ gone)) }
     ensures replay { IfErr result (λ e. (input written : List ℕ) (left : Option (List ℕ))
         → InputProgress input left pending.old count script.old written → IsReplay input left (Err e) script.new) }
@@ -122,15 +123,15 @@ pub fn answer_last<S: Sink, O: Observer>(
     count: u64,
     script: &mut Script,
     sink: &S,
-    out: &mut Vec<u8>,
+    out: &mut TextBuffer,
     observer: &mut O,
 ) -> Result<(), RunFault>
     requires short { length pending.now ≤ MAX_LINE_BYTES }
     requires count { count ≤ MAX_LINES }
     ensures held { (input sent : List ℕ) (left : Option (List ℕ))
-        → InputProgress input left pending.now count script.old (sent ++ out.old.items)
+        → InputProgress input left pending.now count script.old (sent ++ out.old)
         → IsAtEnd left → line_len pending.now ≡ length pending.now → (gone : List ℕ)
-        × IsUnread (S.contents sink.now) gone × IsHeldRun input left out.new.items result (sent ++ gone) }
+        × IsUnread (S.contents sink.now) gone × IsHeldRun input left out.new result (sent ++ gone) }
     ensures replay { (input written : List ℕ) (left : Option (List ℕ))
         → InputProgress input left pending.now count script.old written
         → IsAtEnd left → line_len pending.now ≡ length pending.now → IsReplay input left result script.new }

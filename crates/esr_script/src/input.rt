@@ -67,7 +67,7 @@ impl InputBuffer {
             × Keeps (R.remaining (inner reader.old)) (R.remaining (inner reader.new))) }
         ensures failed { failed reader.new ≡ (failed reader.old || is_read_fault result) }
     {
-        self.buffer.rotate_left(self.start);
+        self.buffer.copy_within(self.start..self.end, 0);
         self.end -= self.start;
         self.start = 0;
         match reader.read(&mut self.buffer[self.end..]) {

@@ -28,6 +28,7 @@ mod script_text;
 mod silent_run;
 mod sink;
 mod stage;
+mod text_buffer;
 
 pub use audit_text::{audit, audit_silently};
 pub use audited_script::AuditedScript;

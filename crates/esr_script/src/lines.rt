@@ -6,7 +6,7 @@
 //! person at a terminal sees each reply, and also when much text has accumulated.
 
 ghost use Rattle.esr_grammar.specs.declared.limits.TheConstants.{MAX_LINE_BYTES};
-ghost use Rattle.std.specs.Prelude.{◌≡◌, ℕ, List, [], ◌++◌, Some, IsErrOf, IfErr, IfOk, false, ◌≤◌, ◌⊎◌, length};
+ghost use Rattle.std.specs.Prelude.{◌≡◌, ℕ, List, [], ◌++◌, Some, IsErrOf, IfErr, IfOk, OnOk, false, ◌≤◌, ◌⊎◌, ◌||◌, length};
 ghost use Rattle.std.specs.Io.KnownBytes.{Appends, Consumes, IsAtEnd, Keeps};
 ghost use Rattle.esr_base.specs.Watch.{inner, failed, BeginsWith};
 ghost use Rattle.esr_script.specs.Text.{start};
@@ -18,12 +18,26 @@ use crate::fault::RunFault;
 use crate::input::InputBuffer;
 use crate::script::Script;
 use crate::sink::Sink;
+use crate::text_buffer::TextBuffer;
 use esr_grammar::{Next, next_line};
 use esr_history::Watched;
 use esr_lint::Observer;
 use std::io::Read;
 
 const OUTPUT_FULL: usize = 32768;
+
+/// Lets the sink take the output, and empties the buffer.
+fn hand_over<S: Sink>(sink: &mut S, out: &mut TextBuffer) -> Result<(), RunFault>
+    ensures ok { OnOk result ((out.new ≡ []) × Appends (S.contents sink.old) (S.contents sink.new) out.old) }
+    ensures err { IfErr result (λ e. (e ≡ RunFault.Write) × ((sent : List ℕ) × BeginsWith out.old sent
+        × Appends (S.contents sink.old) (S.contents sink.new) sent)) }
+    ensures failed { S.has_failed sink.new ≡ (S.has_failed sink.old || is_write_fault result) }
+{
+    let mut text = out.take_text();
+    let taken = sink.take(&mut text);
+    out.put_text(text);
+    taken
+}
 
 /// Executes line after line. Output that is not yet taken is in `out`.
 #[tactic(auto, using(crate::proofs::Handed::handed_on))]
@@ -32,20 +46,20 @@ pub fn answer_lines<R: Read, S: Sink, O: Observer>(
     sink: &mut S,
     pending: &mut InputBuffer,
     script: &mut Script,
-    out: &mut Vec<u8>,
+    out: &mut TextBuffer,
     observer: &mut O,
 ) -> Result<(), RunFault>
     requires pending { pending.old ≡ [] }
     requires script { script.old ≡ start }
-    requires out { out.old.items ≡ [] }
+    requires out { out.old ≡ [] }
     requires reader { failed reader.old ≡ false }
     requires sink { S.has_failed sink.old ≡ false }
     ensures text { (input : List ℕ) → R.remaining (inner reader.old) ≡ Some input → (sent : List ℕ)
         × Appends (S.contents sink.old) (S.contents sink.new) sent
-        × IsHeldRun input (R.remaining (inner reader.new)) out.new.items result sent }
+        × IsHeldRun input (R.remaining (inner reader.new)) out.new result sent }
     ensures replay { is_write_fault result ≡ false → (input : List ℕ) → R.remaining (inner reader.old) ≡ Some input
         → IsReplay input (R.remaining (inner reader.new)) result script.new }
-    ensures read { IsErrOf result RunFault.Read → out.new.items ≡ [] }
+    ensures read { IsErrOf result RunFault.Read → out.new ≡ [] }
     ensures reader { failed reader.new ≡ is_read_fault result }
     ensures sink { S.has_failed sink.new ≡ is_write_fault result }
 {
@@ -61,7 +75,7 @@ pub fn answer_lines<R: Read, S: Sink, O: Observer>(
         }
         answer_next(next, pending, count, script, sink, out, observer)?;
         if out.len() >= OUTPUT_FULL {
-            sink.take(out)?;
+            hand_over(sink, out)?;
         }
         count += 1;
     }
@@ -73,7 +87,7 @@ fn read_on<R: Read, S: Sink>(
     reader: &mut Watched<R>,
     sink: &mut S,
     pending: &mut InputBuffer,
-    out: &mut Vec<u8>,
+    out: &mut TextBuffer,
 ) -> Result<usize, RunFault>
     requires short { length pending.old ≤ MAX_LINE_BYTES }
     requires reader { failed reader.old ≡ false }
@@ -81,16 +95,16 @@ fn read_on<R: Read, S: Sink>(
     ensures ok { IfOk result (λ n. (more : List ℕ) × (length more ≡ n) × (pending.new ≡ pending.old ++ more)
         × Consumes (R.remaining (inner reader.old)) (R.remaining (inner reader.new)) more
         × (n ≡ 0 → IsAtEnd (R.remaining (inner reader.new)))) }
-    ensures sent { is_write_fault result ≡ false → (out.new.items ≡ [])
-        × Appends (S.contents sink.old) (S.contents sink.new) out.old.items }
+    ensures sent { is_write_fault result ≡ false → (out.new ≡ [])
+        × Appends (S.contents sink.old) (S.contents sink.new) out.old }
     ensures read { IsErrOf result RunFault.Read → (pending.new ≡ pending.old)
         × Keeps (R.remaining (inner reader.old)) (R.remaining (inner reader.new)) }
-    ensures write { IsErrOf result RunFault.Write → (sent : List ℕ) × BeginsWith out.old.items sent
+    ensures write { IsErrOf result RunFault.Write → (sent : List ℕ) × BeginsWith out.old sent
         × Appends (S.contents sink.old) (S.contents sink.new) sent }
     ensures faults { IfErr result (λ e. (e ≡ RunFault.Read) ⊎ (e ≡ RunFault.Write)) }
     ensures reader { failed reader.new ≡ is_read_fault result }
     ensures sink { S.has_failed sink.new ≡ is_write_fault result }
 {
-    sink.take(out)?;
+    hand_over(sink, out)?;
     pending.fill(reader)
 }

@@ -15,6 +15,7 @@ use crate::input::InputBuffer;
 use crate::lines::answer_lines;
 use crate::output::{OUTPUT_ROOM, send_all};
 use crate::script::Script;
+use crate::text_buffer::TextBuffer;
 use esr_history::Watched;
 use esr_lint::Observer;
 use std::alloc::Global;
@@ -38,7 +39,7 @@ pub fn run<R: Read, W: Write, O: Observer>(
     let Ok(mut pending) = InputBuffer::new(alloc) else {
         return Err(RunFault::NoMemory);
     };
-    let Ok(mut out) = Vec::with_capacity(alloc, OUTPUT_ROOM) else {
+    let Ok(mut out) = TextBuffer::with_capacity(alloc, OUTPUT_ROOM) else {
         return Err(RunFault::NoMemory);
     };
     let mut script = Script::new(alloc, observer.hash_seed());
@@ -50,7 +51,8 @@ pub fn run<R: Read, W: Write, O: Observer>(
         &mut out,
         observer,
     );
-    let ended = send_rest(ended, &mut out, writer);
+    let mut text = out.take_text();
+    let ended = send_rest(ended, &mut text, writer);
     observer.see_end();
     ended
 }

@@ -14,7 +14,7 @@ ghost use Rattle.esr_views.specs.QueryAnswers.{IsAnswered, IsFoundOf, IsRecorded
 ghost use Rattle.esr_script.specs.Audit.{IsAuditedScript, audit_output};
 ghost use Rattle.esr_history.specs.Queries.{is_committed_query};
 ghost use Rattle.esr_script.specs.QueryAnswers.{IsAuditOf};
-ghost use Rattle.esr_grammar.specs.Command.{view, IsSyntaxOf};
+ghost use Rattle.esr_grammar.specs.Command.{view, IsReadingOf};
 ghost use Rattle.std.specs.List.{join_with_byte};
 ghost use Rattle.std.specs.Fmt.{signed_decimal};
 ghost use Rattle.esr_script.specs.Echoes.{IsEcho};
@@ -28,6 +28,7 @@ use crate::echo::{Echo, push_reply};
 use crate::fault::RunFault;
 use crate::sink::Audience;
 use crate::stage::Stage;
+use crate::text_buffer::TextBuffer;
 use esr_audit::{AuditError, Finding};
 use esr_board::Gate;
 use esr_grammar::{Line, Parsed, parse_line};
@@ -36,7 +37,7 @@ use esr_items::{ItemId, MAX_ITEMS, MAX_VALUE, MAX_WEIGHT};
 use esr_least::QueryAudit;
 use esr_lint::{LineOutcome, Observer, TxnSummary};
 use esr_report::{
-    LineError, Names, ReplyNames, audit_line, error_line, item_line, totals_line,
+    LineError, Names, ReplyNames, audit_line, error_line, item_line, reply_line, totals_line,
     weighted_item_line,
 };
 use esr_views::{AuditedQuery, Recording};
@@ -178,17 +179,15 @@ impl Script {
         outcome_or_fault(appended, LineOutcome::NoEvent)
     }
 
-    /// Executes an event on the machine, and appends its reply. The names in the reply are copied from the line.
+    /// Executes an event on the machine, and appends its reply.
     #[inline(always)]
     fn ask(
         &mut self,
         subject: ReplyNames<'_>,
-        echo: Echo<'_>,
         event: Event,
         out: &mut Vec<u8>,
     ) -> Result<LineOutcome, RunFault>
-        requires begin { IsBegin event → position_of self.old.transactions subject.txn.now ≡ None }
-        requires echo { IsEcho echo (named_by subject) }
+        requires { IsBegin event → position_of self.old.transactions subject.txn.now ≡ None }
         ensures { Executes (ask self.old (named_by subject.entry) event) self.new out.old.items out.new.items result }
     {
         self.stage.ensure_started(self.alloc)?;
@@ -198,22 +197,22 @@ impl Script {
                 return Err(RunFault::NoMemory);
             }
         }
-        let appended = push_reply(out, &self.transactions, subject, echo, reply);
+        let appended = reply_line(out, &self.transactions, subject, reply);
         outcome_or_fault(appended, LineOutcome::of_reply(reply))
     }
 
-    /// Executes an event, like `ask`. A read is executed inline.
+    /// Executes a read, like `ask`. The names in the reply are copied from the line.
     #[inline(always)]
     fn ask_read(
         &mut self,
         subject: ReplyNames<'_>,
         echo: Echo<'_>,
         event: Event,
-        out: &mut Vec<u8>,
+        out: &mut TextBuffer,
     ) -> Result<LineOutcome, RunFault>
         requires begin { IsBegin event → position_of self.old.transactions subject.txn.now ≡ None }
         requires echo { IsEcho echo (named_by subject) }
-        ensures { Executes (ask self.old (named_by subject.entry) event) self.new out.old.items out.new.items result }
+        ensures { Executes (ask self.old (named_by subject.entry) event) self.new out.old out.new result }
     {
         self.stage.ensure_started(self.alloc)?;
         let reply = self.stage.step_read(event)?;
@@ -226,18 +225,18 @@ impl Script {
         outcome_or_fault(appended, LineOutcome::of_reply(reply))
     }
 
-    /// Executes an event, like `ask`. A write is executed inline.
+    /// Executes a write, like `ask`. The reply is copied from the line.
     #[inline(always)]
     fn ask_write(
         &mut self,
         subject: ReplyNames<'_>,
         echo: Echo<'_>,
         event: Event,
-        out: &mut Vec<u8>,
+        out: &mut TextBuffer,
     ) -> Result<LineOutcome, RunFault>
         requires begin { IsBegin event → position_of self.old.transactions subject.txn.now ≡ None }
         requires echo { IsEcho echo (named_by subject) }
-        ensures { Executes (ask self.old (named_by subject.entry) event) self.new out.old.items out.new.items result }
+        ensures { Executes (ask self.old (named_by subject.entry) event) self.new out.old out.new result }
     {
         self.stage.ensure_started(self.alloc)?;
         let reply = self.stage.step_write(event)?;
@@ -263,20 +262,20 @@ impl Script {
         if self.transactions.number_of(name).is_some() {
             return reply_error(out, LineError::NameInUse);
         }
-        self.ask(alone(name), Echo::Nothing, event, out)
+        self.ask(alone(name), event, out)
     }
 
-    /// Reads an item.
+    /// Reads an item, given the words of its line.
     #[inline(always)]
     fn read(
         &mut self,
         words: &[u8],
         txn: &str,
         item: &str,
-        out: &mut Vec<u8>,
+        out: &mut TextBuffer,
     ) -> Result<LineOutcome, RunFault>
         requires { words.now ≡ join_with_byte 32 (txn.now ∷ item.now ∷ []) }
-        ensures { Executes (execute self.old (command.read txn.now item.now)) self.new out.old.items out.new.items result }
+        ensures { Executes (execute self.old (command.read txn.now item.now)) self.new out.old out.new result }
     {
         let event = Event::Read {
             txn: self.transaction(txn),
@@ -290,7 +289,7 @@ impl Script {
         self.ask_read(subject, Echo::Read(words), event, out)
     }
 
-    /// Writes an item.
+    /// Writes an item, given its line.
     #[inline(always)]
     fn write(
         &mut self,
@@ -298,11 +297,10 @@ impl Script {
         txn: &str,
         item: &str,
         value: i64,
-        out: &mut Vec<u8>,
+        out: &mut TextBuffer,
     ) -> Result<LineOutcome, RunFault>
         requires { line.now ≡ codes "write " ++ join_with_byte 32 (txn.now ∷ item.now ∷ signed_decimal value ∷ []) }
-        ensures { Executes (execute self.old (command.write txn.now item.now value))
-            self.new out.old.items out.new.items result }
+        ensures { Executes (execute self.old (command.write txn.now item.now value)) self.new out.old out.new result }
     {
         let event = Event::Write {
             txn: self.transaction(txn),
@@ -313,6 +311,48 @@ impl Script {
         self.ask_write(subject, Echo::Write(line), event, out)
     }
 
+    /// Reads an item, like `read`, and formats the reply.
+    #[inline(never)]
+    fn read_in_text(
+        &mut self,
+        txn: &str,
+        item: &str,
+        out: &mut Vec<u8>,
+    ) -> Result<LineOutcome, RunFault>
+        ensures { Executes (execute self.old (command.read txn.now item.now)) self.new out.old.items out.new.items result }
+    {
+        let event = Event::Read {
+            txn: self.transaction(txn),
+            item: self.item(item),
+        };
+        let subject = ReplyNames {
+            txn,
+            item,
+            value: 0,
+        };
+        self.ask(subject, event, out)
+    }
+
+    /// Writes an item, like `write`, and formats the reply.
+    #[inline(never)]
+    fn write_in_text(
+        &mut self,
+        txn: &str,
+        item: &str,
+        value: i64,
+        out: &mut Vec<u8>,
+    ) -> Result<LineOutcome, RunFault>
+        ensures { Executes (execute self.old (command.write txn.now item.now value))
+            self.new out.old.items out.new.items result }
+    {
+        let event = Event::Write {
+            txn: self.transaction(txn),
+            item: self.item(item),
+            value,
+        };
+        self.ask(ReplyNames { txn, item, value }, event, out)
+    }
+
     /// Commits a transaction.
     #[inline(never)]
     fn commit(&mut self, txn: &str, out: &mut Vec<u8>) -> Result<LineOutcome, RunFault>
@@ -321,7 +361,7 @@ impl Script {
         let event = Event::Commit {
             txn: self.transaction(txn),
         };
-        self.ask(alone(txn), Echo::Nothing, event, out)
+        self.ask(alone(txn), event, out)
     }
 
     /// Aborts a transaction.
@@ -332,7 +372,7 @@ impl Script {
         let event = Event::Abort {
             txn: self.transaction(txn),
         };
-        self.ask(alone(txn), Echo::Nothing, event, out)
+        self.ask(alone(txn), event, out)
     }
 
     /// Sums the charges so far.
@@ -570,16 +610,8 @@ impl Script {
         }
     }
 
-    /// Executes the command of a line. Only reads and writes, the most frequent commands, are inlined: with the others
-    /// the function would exceed the compiler's limit for inlining it.
-    #[inline(always)]
-    fn execute(
-        &mut self,
-        text: &[u8],
-        line: Line<'_>,
-        out: &mut Vec<u8>,
-    ) -> Result<LineOutcome, RunFault>
-        requires { IsSyntaxOf text.now (view line) }
+    /// Executes the command of a line.
+    fn execute(&mut self, line: Line<'_>, out: &mut Vec<u8>) -> Result<LineOutcome, RunFault>
         ensures { Executes (execute self.old (view line.entry)) self.new out.old.items out.new.items result }
     {
         match line {
@@ -608,8 +640,8 @@ impl Script {
                 };
                 self.begin(name, event, out)
             }
-            Line::Read { txn, item } => self.read(&text[5..], txn, item, out),
-            Line::Write { txn, item, value } => self.write(text, txn, item, value, out),
+            Line::Read { txn, item } => self.read_in_text(txn, item, out),
+            Line::Write { txn, item, value } => self.write_in_text(txn, item, value, out),
             Line::Commit { txn } => self.commit(txn, out),
             Line::Abort { txn } => self.abort(txn, out),
             Line::Audit { txn } => self.reply_audit(txn, out),
@@ -617,26 +649,72 @@ impl Script {
         }
     }
 
-    /// Executes a line, appends its text to the output, and returns its outcome. An error leaves the output as it was.
-    /// If the text is to be dropped, no query is audited, and the text appended is not specified.
+    /// Executes a parsed line, like `answer`, and formats each reply.
     #[tactic(auto, using(crate::proofs::Unread::executed))]
-    pub fn answer(
+    fn answer_in_text(
         &mut self,
         line: &[u8],
+        parsed: Parsed<'_>,
         audience: Audience,
         out: &mut Vec<u8>,
     ) -> Result<LineOutcome, RunFault>
+        requires { IsReadingOf line.now parsed }
         ensures state { EndsIn (answer self.old line.now) self.new result }
         ensures text { audience ≡ Audience.Somebody
             → Executes (answer self.old line.now) self.new out.old.items out.new.items result }
     {
-        match parse_line(line) {
+        match parsed {
             Parsed::Skipped => Ok(LineOutcome::NoEvent),
             Parsed::NotACommand => reply_error(out, LineError::NotACommand),
             Parsed::Command(Line::Audit { txn }) if audience == Audience::NoReader => {
                 self.pass_audit(txn)
             }
-            Parsed::Command(command) => self.execute(line, command, out),
+            Parsed::Command(command) => self.execute(command, out),
+        }
+    }
+
+    /// Executes a parsed line, like `answer`. This is the part of `answer` that is not inlined.
+    #[inline(never)]
+    fn answer_any(
+        &mut self,
+        line: &[u8],
+        parsed: Parsed<'_>,
+        audience: Audience,
+        out: &mut TextBuffer,
+    ) -> Result<LineOutcome, RunFault>
+        requires { IsReadingOf line.now parsed }
+        ensures state { EndsIn (answer self.old line.now) self.new result }
+        ensures text { audience ≡ Audience.Somebody
+            → Executes (answer self.old line.now) self.new out.old out.new result }
+    {
+        let mut text = out.take_text();
+        let answered = self.answer_in_text(line, parsed, audience, &mut text);
+        out.put_text(text);
+        answered
+    }
+
+    /// Executes a line, appends its text to the output, and returns its outcome. An error leaves the output as it was.
+    /// If the text is to be dropped, no query is audited, and the text appended is not specified.
+    ///
+    /// Reads and writes, the most frequent commands, are inlined into the loop over the lines.
+    #[tactic(auto, using(crate::proofs::Unread::executed, crate::proofs::Unread::answered))]
+    #[inline(always)]
+    pub fn answer(
+        &mut self,
+        line: &[u8],
+        audience: Audience,
+        out: &mut TextBuffer,
+    ) -> Result<LineOutcome, RunFault>
+        ensures state { EndsIn (answer self.old line.now) self.new result }
+        ensures text { audience ≡ Audience.Somebody
+            → Executes (answer self.old line.now) self.new out.old out.new result }
+    {
+        match parse_line(line) {
+            Parsed::Command(Line::Read { txn, item }) => self.read(&line[5..], txn, item, out),
+            Parsed::Command(Line::Write { txn, item, value }) => {
+                self.write(line, txn, item, value, out)
+            }
+            parsed => self.answer_any(line, parsed, audience, out),
         }
     }
 }

@@ -12,6 +12,7 @@ use crate::input::InputBuffer;
 use crate::lines::answer_lines;
 use crate::script::Script;
 use crate::sink::Dropped;
+use crate::text_buffer::TextBuffer;
 use esr_history::Watched;
 use esr_lint::Observer;
 use std::alloc::Global;
@@ -34,7 +35,7 @@ pub fn replay<R: Read, O: Observer>(
         return Err(RunFault::NoMemory);
     };
     let mut script = Script::new(alloc, observer.hash_seed());
-    let mut out = Vec::new(alloc);
+    let mut out = TextBuffer::new(alloc);
     let ended = answer_lines(
         reader,
         &mut Dropped,

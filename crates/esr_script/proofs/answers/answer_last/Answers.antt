@@ -6,7 +6,7 @@ use Rattle.esr_script.proofs.answers.answer_last.Goals as goal
 
 pub returns-then-count-eq-MAX_LINES-clause-held : goal.returns-then-count-eq-MAX_LINES-clause-held
 returns-then-count-eq-MAX_LINES-clause-held g c input sent left here end plain =
-    held_same _ input left c.args.out.now.items (Err TooManyLines) sent (held_many input left _ _ _ sent _ here c.if-count-eq-MAX_LINES.true (is_some _ _ _ c.is_empty.ensures c.if-is_empty.false c.bytes-line.ensures))
+    held_same _ input left c.args.out.now (Err TooManyLines) sent (held_many input left _ _ _ sent _ here c.if-count-eq-MAX_LINES.true (is_some _ _ _ c.is_empty.ensures c.if-is_empty.false c.bytes-line.ensures))
 
 pub returns-clause-held : goal.returns-clause-held
 returns-clause-held g c input sent left here end plain =
@@ -20,4 +20,4 @@ returns-then-count-eq-MAX_LINES-clause-replay g c input written left here end pl
 pub returns-clause-replay : goal.returns-clause-replay
 returns-clause-replay g c input written left here end plain =
     replay_ended input left _ _ _ written here end plain c.requires.short (is_some _ _ _ c.is_empty.ensures c.if-is_empty.false c.bytes-line.ensures) c.if-count-eq-MAX_LINES.false
-    _ c.answer.result c.answer.new.script c.args.out.now.items c.answer.new.out.items (rw c.bytes-line.ensures at c.answer.ensures)
+    _ c.answer.result c.answer.new.script c.args.out.now c.answer.new.out (rw c.bytes-line.ensures at c.answer.ensures)

@@ -5,7 +5,7 @@ use Rattle.esr_script.proofs.Replays.{replay_many, replay_long, replay_full, rep
 use Rattle.esr_script.proofs.answers.answer_next.Goals as goal
 
 pub returns-in_err-length-clause-held : goal.returns-in_err-length-clause-held
-returns-in_err-length-clause-held g c = rw (handed_on _ _ c.from_residual.ensures.1) λ input sent left here. held_same _ input left c.args.out.now.items (Err c.in_err-length.field-0.0) sent (elim c.in_err-length.ensures.faults [
+returns-in_err-length-clause-held g c = rw (handed_on _ _ c.from_residual.ensures.1) λ input sent left here. held_same _ input left c.args.out.now (Err c.in_err-length.field-0.0) sent (elim c.in_err-length.ensures.faults [
   | inl e ↦ rw e (held_many input left _ _ _ sent _ here (c.in_err-length.ensures.many (ap (λ f. Err f) e)) (has_bytes _ _ c.requires.next c.requires.is_complete))
   | inr e ↦ let is = c.in_err-length.ensures.long (ap (λ f. Err f) e) in rw e (held_long input left _ _ _ sent _ here is.1 (rw is.0 at c.requires.next))
 ])

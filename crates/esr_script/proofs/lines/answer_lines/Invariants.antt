@@ -11,7 +11,7 @@ invariant-lines g l = record {
   sink : g.S.Sink.has_failed l.sink ≡ false;
   text : (input : List ℕ) → g.R.Read.remaining (inner l.initial.reader) ≡ Some input → (sent : List ℕ)
       × Appends (g.S.Sink.contents l.initial.sink) (g.S.Sink.contents l.sink) sent
-      × InputProgress input (g.R.Read.remaining (inner l.reader)) l.pending l.count l.script (sent ++ l.out.items);
+      × InputProgress input (g.R.Read.remaining (inner l.reader)) l.pending l.count l.script (sent ++ l.out);
 }
 
 -- a line more takes at most 201 bytes, and a read adds one at least

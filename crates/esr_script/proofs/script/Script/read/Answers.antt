@@ -7,4 +7,4 @@ use Rattle.esr_script.proofs.script.Script.read.Goals as goal
 pub returns : goal.returns
 returns c =
     let names : Named = record { txn = c.args.txn.now; item = c.args.item.now; value = pos 0 } in
-    audited c.ask_read.result c.args.self.now c.ask_read.new.self names names _ _ c.args.out.now.items c.ask_read.new.out.items refl (ap₂ (λ t x. Read t x) c.transaction.ensures c.item.ensures) c.ask_read.ensures
+    audited c.ask_read.result c.args.self.now c.ask_read.new.self names names _ _ c.args.out.now c.ask_read.new.out refl (ap₂ (λ t x. Read t x) c.transaction.ensures c.item.ensures) c.ask_read.ensures

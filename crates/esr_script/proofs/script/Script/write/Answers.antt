@@ -10,5 +10,5 @@ pub returns : goal.returns
 returns c =
     let names : ℤ → Named = λ v. record { txn = c.args.txn.now; item = c.args.item.now; value = v } in
     let same : to_z w64 (of_z w64 c.args.value) ≡ c.args.value = to_z-of_z c.ranges.value in
-    audited c.ask_write.result c.args.self.now c.ask_write.new.self _ (names c.args.value) _ _ c.args.out.now.items c.ask_write.new.out.items (ap names same)
+    audited c.ask_write.result c.args.self.now c.ask_write.new.self _ (names c.args.value) _ _ c.args.out.now c.ask_write.new.out (ap names same)
     (ap₂ (λ t x. Write t x (to_z w64 (of_z w64 c.args.value))) c.transaction.ensures c.item.ensures ∙ ap (λ v. Write (transaction_called c.args.self.now c.args.txn.now) (item_called c.args.self.now c.args.item.now) v) same) c.ask_write.ensures
