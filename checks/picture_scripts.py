@@ -150,6 +150,24 @@ def hidden(count, reads):
     return script.text(), "the_whole_report"
 
 
+def shared(count, scale, name_width):
+    """Returns a report next to another one: an update that charges both, mostly the other one, is refused because of its limit, and
+    `count` updates charge both."""
+    pad = lambda stem: stem.rjust(name_width, "W")
+    a, b, query, other, poor = pad("a"), pad("b"), pad("q"), pad("other"), pad("poor")
+    script = Script([(a, 0), (b, 0)])
+    script.query(query)
+    script.query(other)
+    script.read(other, a)
+    script.read(query, b)
+    script.lines += [f"begin {poor} update {120 * scale}", f"write {poor} {a} {61 * scale}", f"write {poor} {b} {9 * scale}"]
+    script.lines += [f"write {poor} {b} {70 * scale}", f"commit {poor}"]
+    for i in range(count):
+        script.update(pad(f"u{i}"), [(b, (30 + i) * scale), (a, (70 - i) * scale)], [[], [(query, a)] if i % 2 else []])
+    script.lines += [f"commit {query}", f"commit {other}"]
+    return script.text(), query
+
+
 def errors(count):
     """A report in a script with `count` lines with errors, which contain letters that markup reserves."""
     text, query = rounds(6, 3, 0, False)
@@ -175,6 +193,9 @@ def edges():
     yield ("strict",) + strict()
     yield ("follower",) + follower(1)
     yield ("follower_far",) + follower(20)
+    for count in (2, 40):
+        yield (f"shared_{count}",) + shared(count, 1, 0)
+        yield (f"shared_longest_{count}",) + shared(count, 10 ** 10, 16)
     yield ("error",) + errors(1)
     yield ("errors",) + errors(9)
     yield ("one_item",) + one_item(12, 1)

@@ -31,14 +31,50 @@ fn push_limit_words(out: &mut String, limit: u64, y: u32) -> Result<(), AllocErr
     close_text(out)
 }
 
-/// Appends how much of the charges of a transaction is drawn.
-fn push_drawn(out: &mut String, drawn: u64) -> Result<(), AllocError> {
-    out.push('(')?;
-    push_number(out, drawn)?;
-    out.push_str(" drawn)")
+/// Appends the notes on the charges of a transaction, in brackets: how much of them is to the queries that are drawn, and how
+/// much of that is drawn.
+fn push_notes(out: &mut String, lane: &Lane<'_>) -> Result<(), AllocError> {
+    let mut joint = " (";
+    if lane.has_here_note() {
+        out.push_str(joint)?;
+        push_number(out, lane.here)?;
+        out.push_str(" here")?;
+        joint = ", ";
+    }
+    if lane.has_drawn_note() {
+        out.push_str(joint)?;
+        push_number(out, lane.drawn)?;
+        out.push_str(" drawn")?;
+    }
+    if lane.count_notes() > 0 {
+        out.push(')')?;
+    }
+    Ok(())
 }
 
-/// Appends the charges of a transaction, above its lane with the part that is drawn.
+/// Appends a note on the charges of a transaction, in front of its lane.
+fn push_note_row(out: &mut String, amount: u64, words: &str, y: u32) -> Result<(), AllocError> {
+    open_text(out, "lb ch ha", MARGIN, y)?;
+    out.push('(')?;
+    push_number(out, amount)?;
+    out.push_str(words)?;
+    close_text(out)
+}
+
+/// Appends the notes on the charges of a transaction in front of its lane, each in a separate row below `y`.
+fn push_note_rows(out: &mut String, lane: &Lane<'_>, y: u32) -> Result<(), AllocError> {
+    let mut next = y.saturating_add(TEXT_ROW);
+    if lane.has_here_note() {
+        push_note_row(out, lane.here, " here)", next)?;
+        next = next.saturating_add(TEXT_ROW);
+    }
+    if lane.has_drawn_note() {
+        push_note_row(out, lane.drawn, " drawn)", next)?;
+    }
+    Ok(())
+}
+
+/// Appends the charges of a transaction, above its lane with the notes.
 fn push_charged(
     out: &mut String,
     lane: &Lane<'_>,
@@ -54,9 +90,8 @@ fn push_charged(
     open_text(out, class, x, y)?;
     out.push_str("charged ")?;
     push_number(out, lane.charged)?;
-    if is_above && lane.has_drawn_note() {
-        out.push(' ')?;
-        push_drawn(out, lane.drawn)?;
+    if is_above {
+        push_notes(out, lane)?;
     }
     close_text(out)
 }
@@ -76,13 +111,9 @@ fn push_head_in_front(
     let kind = kind_of(lane);
     push_text(out, "lb gy ha", MARGIN, top.saturating_add(34), kind)?;
     push_limit_words(out, lane.limit, top.saturating_add(47))?;
-    push_charged(out, lane, false, MARGIN, top.saturating_add(60))?;
-    if lane.has_drawn_note() {
-        open_text(out, "lb ch ha", MARGIN, top.saturating_add(73))?;
-        push_drawn(out, lane.drawn)?;
-        close_text(out)?;
-    }
-    Ok(())
+    let y = top.saturating_add(60);
+    push_charged(out, lane, false, MARGIN, y)?;
+    push_note_rows(out, lane, y)
 }
 
 /// Appends the name of a transaction above its lane, and in the band in which it begins also its kind, its limit and its
@@ -361,18 +392,9 @@ fn push_way(
     write!(out, "V{end}")
 }
 
-/// Returns whether a charge is for a read of a value before its update committed: the entry is the read of the query.
-pub fn is_early_read(columns: &[Column<'_>], arrow: &Arrow<'_>) -> bool {
-    column_at(columns, arrow.place).is_some_and(|column| column.mark.lane == arrow.to)
-}
-
 /// Returns the class of the arrow of a charge.
-fn class_of(columns: &[Column<'_>], arrow: &Arrow<'_>) -> &'static str {
-    if is_early_read(columns, arrow) {
-        "ar er"
-    } else {
-        "ar"
-    }
+fn class_of(arrow: &Arrow<'_>) -> &'static str {
+    if arrow.is_early_read() { "ar er" } else { "ar" }
 }
 
 /// Appends the arrow of a charge.
@@ -386,7 +408,7 @@ fn push_arrow(
         return Ok(());
     };
     let prefix = prefix_of(scene);
-    let class = class_of(&band.columns, arrow);
+    let class = class_of(arrow);
     write!(
         out,
         "<path class='{class}' marker-end='url(#{prefix}-timeline-tip)' d='"

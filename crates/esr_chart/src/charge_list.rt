@@ -9,14 +9,14 @@ use crate::elements::{close_text, open_end, open_text};
 use crate::grid::Position;
 use crate::layout::{MARGIN, width_of};
 use crate::listing::{Cells, Listing, Omitted};
-use crate::table::{COLUMN_GAP, NARROW};
+use crate::table::{COLUMN_GAP, NARROW, push_step, step_letters, step_words};
 use crate::titles::push_change;
 use esr_text::{first, number_letters, push_count, push_number};
 use esr_timeline_data::{ListedCharge, Scene};
 use std::alloc::{AllocError, Global};
 
 /// The maximum number of charges in the list.
-const MAX_CHARGES: usize = 300;
+pub const MAX_CHARGES: usize = 300;
 
 /// A column of the list.
 #[derive(Clone, Copy, PartialEq, Eq)]
@@ -39,7 +39,7 @@ static FIELDS: [Field; 5] = [
 /// Returns the letters of a field of a charge.
 fn letters_in(charge: &ListedCharge<'_>, field: Field) -> usize {
     match field {
-        Field::Step => number_letters(charge.arrow.step()),
+        Field::Step => step_letters(charge.arrow.step(), charge.arrow.is_early_read()),
         Field::Update => charge.update.len(),
         Field::Item => charge.arrow.item.len(),
         Field::Change => change_letters(&charge.arrow, false),
@@ -76,6 +76,13 @@ fn total_of(charges: &[ListedCharge<'_>]) -> u64 {
     total
 }
 
+/// Returns whether one of the first charges, which are in the list, is for a read before commit.
+fn has_early_read(charges: &[ListedCharge<'_>]) -> bool {
+    first(charges, MAX_CHARGES)
+        .iter()
+        .any(|charge| charge.arrow.is_early_read())
+}
+
 /// Appends what the list has.
 fn push_words(out: &mut String, scene: &Scene<'_>) -> Result<(), AllocError> {
     let count = scene.undrawn.len() as u64;
@@ -87,7 +94,8 @@ fn push_words(out: &mut String, scene: &Scene<'_>) -> Result<(), AllocError> {
         " are not drawn, the greatest first, together "
     })?;
     push_number(out, total_of(&scene.undrawn))?;
-    out.push_str(": step, update, item with its change, charge.")
+    out.push_str(step_words(has_early_read(&scene.undrawn)))?;
+    out.push_str(", update, item with its change, charge.")
 }
 
 /// Returns the width that the list of a scene needs, or 0 without a list.
@@ -101,7 +109,7 @@ pub fn list_width(scene: &Scene<'_>) -> u32 {
 /// Appends a field of a charge.
 fn push_field(out: &mut String, charge: &ListedCharge<'_>, field: Field) -> Result<(), AllocError> {
     match field {
-        Field::Step => push_number(out, charge.arrow.step()),
+        Field::Step => push_step(out, charge.arrow.step(), charge.arrow.is_early_read()),
         Field::Update => out.push_str(charge.update),
         Field::Item => out.push_str(charge.arrow.item),
         Field::Change => push_change(out, &charge.arrow),

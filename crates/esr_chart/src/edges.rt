@@ -1,9 +1,10 @@
 //! The right edges of the texts of a band, from which the columns get their distances.
 
+use crate::excess::excess_letters;
 use crate::layout::{Column, GAP, MARGIN, width_of};
 use crate::reads::read_letters;
 use esr_text::{letters_of, number_letters};
-use esr_timeline_data::{Action, Arrow, Excess, Lane, Mark, weight_letters};
+use esr_timeline_data::{Action, Arrow, Lane, Mark, weight_letters};
 use esr_wording::outcome_words;
 use std::alloc::{AllocError, Global};
 
@@ -39,16 +40,6 @@ fn half_of(letters: usize) -> u32 {
     width_of(letters).div_ceil(2)
 }
 
-/// Returns the letters of `sum 32, limit 12`.
-fn excess_letters(excess: Option<Excess>) -> usize {
-    match excess {
-        Some(excess) => number_letters(excess.sum)
-            .saturating_add(number_letters(excess.limit))
-            .saturating_add(12),
-        None => 0,
-    }
-}
-
 /// Returns the letters below a mark.
 fn value_letters(column: &Column<'_>) -> usize {
     let mark = &column.mark;
@@ -70,7 +61,7 @@ fn value_letters(column: &Column<'_>) -> usize {
             let blocker = mark.blocker.len().saturating_add(9).saturating_add(count);
             // "tried to read" has 13 letters.
             let attempt = value.map_or(13, |value| letters_of(value).saturating_add(15));
-            blocker.max(attempt).max(excess_letters(excess))
+            blocker.max(attempt).max(excess_letters(column, excess))
         }
         Action::Begin | Action::Commit | Action::Abort => 0,
     }

@@ -173,18 +173,30 @@ fn charged_letters(lane: &Lane<'_>) -> usize {
     number_letters(lane.charged).saturating_add(8)
 }
 
-/// Returns the letters of ` (900 drawn)`, if there is such a note.
-fn drawn_letters(lane: &Lane<'_>) -> usize {
-    if lane.has_drawn_note() {
-        number_letters(lane.drawn).saturating_add(9)
+/// Returns the letters of ` (900 here)`, if there is such a note.
+fn here_letters(lane: &Lane<'_>) -> usize {
+    if lane.has_here_note() {
+        number_letters(lane.here).saturating_add(8)
     } else {
         0
     }
 }
 
-/// Returns the letters of the charges above a lane, with the part that is drawn.
+/// Returns the letters of ` (900 drawn)`, or after another note of `, 900 drawn`, if there is such a note.
+fn drawn_letters(lane: &Lane<'_>) -> usize {
+    let letters = number_letters(lane.drawn);
+    match (lane.has_drawn_note(), lane.has_here_note()) {
+        (true, true) => letters.saturating_add(8),
+        (true, false) => letters.saturating_add(9),
+        (false, _) => 0,
+    }
+}
+
+/// Returns the letters of the charges above a lane, with the notes.
 fn charged_letters_above(lane: &Lane<'_>) -> usize {
-    charged_letters(lane).saturating_add(drawn_letters(lane))
+    charged_letters(lane)
+        .saturating_add(here_letters(lane))
+        .saturating_add(drawn_letters(lane))
 }
 
 /// Returns the width of the name of a transaction.
@@ -201,6 +213,7 @@ pub fn limit_width(lane: &Lane<'_>) -> u32 {
 fn head_width(lane: &Lane<'_>) -> u32 {
     let letters = limit_letters(lane)
         .max(charged_letters(lane))
+        .max(here_letters(lane))
         .max(drawn_letters(lane));
     width_of(letters.max(kind_of(lane).len())).max(name_width(lane))
 }
@@ -462,10 +475,10 @@ fn body_height(lane: &Lane<'_>, span: &Span, heads: Heads) -> u32 {
     let bottom = span.content_bottom(has_bar(lane));
     let height = bottom.saturating_add(gap);
     match heads {
-        Heads::InFront if span.has_head && lane.has_drawn_note() => {
-            height.max(HEAD_HEIGHT + TEXT_ROW)
+        Heads::InFront if span.has_head => {
+            let notes = lane.count_notes().saturating_mul(TEXT_ROW);
+            height.max(notes.saturating_add(HEAD_HEIGHT))
         }
-        Heads::InFront if span.has_head => height.max(HEAD_HEIGHT),
         _ => height,
     }
 }

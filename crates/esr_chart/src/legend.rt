@@ -1,6 +1,6 @@
 //! The legend: what each sign means, of those that occur, in rows as wide as the picture.
 
-use crate::bands::{band_class, is_early_read};
+use crate::bands::band_class;
 use crate::elements::{push_circle, push_continued, push_cross, push_rect, push_square, push_text};
 use crate::layout::{Band, Layout, MARGIN, charges_between};
 use crate::limits::has_bar;
@@ -93,7 +93,7 @@ fn has_action(band: &Band<'_>, key: Key) -> bool {
 fn has_charge(scene: &Scene<'_>, band: &Band<'_>, key: Key) -> bool {
     charges_between(&scene.arrows, band.first_place(), band.end_place())
         .iter()
-        .any(|arrow| is_early_read(&band.columns, arrow) == (key == Key::EarlyRead))
+        .any(|arrow| arrow.is_early_read() == (key == Key::EarlyRead))
 }
 
 /// Returns whether a lane of a band continues in the next one.

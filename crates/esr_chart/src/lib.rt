@@ -11,6 +11,7 @@ mod charge_list;
 mod charge_table;
 mod edges;
 mod elements;
+mod excess;
 mod grid;
 mod head;
 mod layout;
@@ -24,6 +25,7 @@ mod tables;
 mod titles;
 
 pub use bands::push_bands;
+pub use charge_list::MAX_CHARGES;
 pub use elements::push_text;
 pub use head::{
     Size, Sizes, open_narrow, prefix_of, push_attributes, push_background, push_head,
@@ -31,4 +33,5 @@ pub use head::{
 };
 pub use layout::{Band, Drawn, Format, Heads, Layout, MARGIN, Spacing, layout_of};
 pub use legend::{legend_height, push_legend};
+pub use table::MAX_READS;
 pub use tables::Tables;

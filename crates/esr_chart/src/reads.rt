@@ -2,6 +2,7 @@
 //! and its writer, and by how much; and what explains that. The layout counts and measures these rows, and the marks draw
 //! them.
 
+use crate::excess::count_excess_rows;
 use crate::layout::Column;
 use esr_text::{letters_of, number_letters, push_number, push_value};
 use esr_timeline_data::{Action, Mark, Note, NotedWrite, Writer};
@@ -72,10 +73,10 @@ pub fn has_row(column: &Column<'_>, row: Row) -> bool {
 /// Returns the number of rows below a mark after the first one.
 pub fn count_more_rows(column: &Column<'_>) -> u32 {
     if let Action::Blocked { excess, .. } = column.mark.action {
-        return match (column.has_label, excess) {
-            (false, _) => 0,
-            (true, None) => 1,
-            (true, Some(_)) => 2,
+        return if column.has_label {
+            count_excess_rows(column, excess).saturating_add(1)
+        } else {
+            0
         };
     }
     let mut count = 0u32;

@@ -1,11 +1,12 @@
 //! The marks of a band with their labels.
 
 use crate::elements::{close_text, open_centred, push_circle, push_cross, push_square};
+use crate::excess::push_excess;
 use crate::layout::{Band, Column, TEXT_ROW};
 use crate::reads::{all_rows, class_of_row, has_row, push_row};
 use crate::titles::push_mark_title;
 use esr_text::{push_number, push_value};
-use esr_timeline_data::{Action, Cause, Excess, Lane, Scene};
+use esr_timeline_data::{Action, Cause, Lane, Scene};
 use std::alloc::AllocError;
 
 /// Appends the sign of a mark.
@@ -93,19 +94,6 @@ fn push_blocker(
     close_text(out)
 }
 
-/// Appends the sum that would have exceeded a limit, and the limit.
-fn push_excess(out: &mut String, excess: Option<Excess>, x: u32, y: u32) -> Result<(), AllocError> {
-    let Some(excess) = excess else {
-        return Ok(());
-    };
-    open_centred(out, "lb bl ha", x, y)?;
-    out.push_str("sum ")?;
-    push_number(out, excess.sum)?;
-    out.push_str(", limit ")?;
-    push_number(out, excess.limit)?;
-    close_text(out)
-}
-
 /// Appends the value below a mark, or what blocked the event.
 fn push_value_label(
     out: &mut String,
@@ -126,7 +114,7 @@ fn push_value_label(
             let next = y.saturating_add(TEXT_ROW);
             push_attempt(out, value, column.x, y)?;
             push_blocker(out, lane, column, (cause, times), next)?;
-            push_excess(out, excess, column.x, next.saturating_add(TEXT_ROW))
+            push_excess(out, column, excess, next.saturating_add(TEXT_ROW))
         }
         Action::Begin | Action::Commit | Action::Abort => Ok(()),
     }

@@ -9,14 +9,14 @@ use crate::elements::{close_text, open_end, open_text, push_text};
 use crate::grid::{Grid, Position};
 use crate::layout::{MARGIN, TEXT_ROW, width_of};
 use esr_text::{first, letters_of, number_letters, push_count, push_number, push_value, wrap};
-use esr_timeline_data::{ListedRead, Scene, Writer};
+use esr_timeline_data::{ListedRead, Scene, Writer, WriterStatus};
 use std::alloc::{AllocError, Global};
 
 /// The maximum number of reads that have no table.
 const FEW_READS: usize = 3;
 
 /// The maximum number of reads in a table, in one of a narrow picture, and in one with two rows for each.
-const MAX_READS: usize = 60;
+pub const MAX_READS: usize = 60;
 
 const MAX_NARROW_READS: usize = 24;
 
@@ -56,7 +56,7 @@ enum Field {
     WriterName,
     State,
     StateWriter,
-    /// Whether the read was too late or too early.
+    /// Whether the read was too late or too early, or the update aborted.
     Side,
     Distance,
 }
@@ -170,10 +170,37 @@ fn name_letters(writer: Writer<'_>) -> usize {
     }
 }
 
+/// Returns the letters of a step in a list, with the sign of a read before commit.
+pub fn step_letters(step: u64, is_early_read: bool) -> usize {
+    number_letters(step).saturating_add(if is_early_read { 1 } else { 0 })
+}
+
+/// Appends a step in a list, with the sign of a read before commit.
+pub fn push_step(out: &mut String, step: u64, is_early_read: bool) -> Result<(), AllocError> {
+    if is_early_read {
+        out.push('*')?;
+    }
+    push_number(out, step)
+}
+
+/// Returns whether a read was too late or too early, or that the update aborted.
+fn side_of(read: &ListedRead<'_>) -> &'static str {
+    match (read.writer_status, read.is_late) {
+        (WriterStatus::Aborted, _) => "aborted",
+        (_, true) => "too late",
+        (_, false) => "too early",
+    }
+}
+
+/// Returns whether a read is one before commit.
+fn has_early_read(reads: &[ListedRead<'_>]) -> bool {
+    reads.iter().any(|read| read.is_early_read())
+}
+
 /// Returns the letters of a field of a read.
 fn letters_in(read: &ListedRead<'_>, field: Field) -> usize {
     match field {
-        Field::Step => number_letters(read.step),
+        Field::Step => step_letters(read.step, read.is_early_read()),
         Field::Item => read.item.len(),
         Field::Value => letters_of(read.value),
         Field::Writer => writer_letters(read.writer),
@@ -245,18 +272,14 @@ fn push_name(out: &mut String, writer: Writer<'_>) -> Result<(), AllocError> {
 /// Appends a field of a read.
 fn push_field(out: &mut String, read: &ListedRead<'_>, field: Field) -> Result<(), AllocError> {
     match field {
-        Field::Step => push_number(out, read.step),
+        Field::Step => push_step(out, read.step, read.is_early_read()),
         Field::Item => out.push_str(read.item),
         Field::Value => push_value(out, read.value),
         Field::Writer => push_writer(out, read.writer),
         Field::WriterName => push_name(out, read.writer),
         Field::State => push_value(out, read.state),
         Field::StateWriter => push_writer(out, read.state_writer),
-        Field::Side => out.push_str(if read.is_late {
-            "too late"
-        } else {
-            "too early"
-        }),
+        Field::Side => out.push_str(side_of(read)),
         Field::Distance => push_number(out, read.distance),
     }
 }
@@ -317,6 +340,22 @@ fn distance_of(reads: &[ListedRead<'_>]) -> u64 {
     sum
 }
 
+/// Appends what the signs of these reads mean, if they have any: that an update aborted, and a read before commit.
+fn push_signs(out: &mut String, reads: &[ListedRead<'_>]) -> Result<(), AllocError> {
+    if reads
+        .iter()
+        .any(|read| read.writer_status == WriterStatus::Aborted)
+    {
+        out.push_str(
+            " Aborted: the update that wrote the value aborted later, so no state has it.",
+        )?;
+    }
+    if has_early_read(reads) {
+        out.push_str(" *: read before commit.")?;
+    }
+    Ok(())
+}
+
 /// Appends what the table has, and how many reads there are in all.
 fn push_words(out: &mut String, scene: &Scene<'_>, form: Form) -> Result<(), AllocError> {
     let query = scene.nearest.map_or("", |nearest| nearest.query);
@@ -338,12 +377,22 @@ fn push_words(out: &mut String, scene: &Scene<'_>, form: Form) -> Result<(), All
         out.push_str(
             " Too late: the state is without the update that wrote the value. Too early: the state has a later value.",
         )?;
+        push_signs(out, first(&scene.off_reads, form.most))?;
     }
     Ok(())
 }
 
-/// Appends how many reads are as in the nearest state, and what the list of them has, if there is one.
-fn push_exact_words(out: &mut String, scene: &Scene<'_>, has_list: bool) -> Result<(), AllocError> {
+/// Returns the text on the steps of a list, which may have reads before commit.
+pub fn step_words(has_early_read: bool) -> &'static str {
+    if has_early_read {
+        ": step (*: read before commit)"
+    } else {
+        ": step"
+    }
+}
+
+/// Appends how many reads are as in the nearest state, and what the list of them has, if there is one. It has the first `listed`.
+fn push_exact_words(out: &mut String, scene: &Scene<'_>, listed: usize) -> Result<(), AllocError> {
     let query = scene.nearest.map_or("", |nearest| nearest.query);
     let count = scene.exact_reads.len() as u64;
     if count == 0 {
@@ -356,11 +405,11 @@ fn push_exact_words(out: &mut String, scene: &Scene<'_>, has_list: bool) -> Resu
     } else {
         " are as in the nearest state"
     })?;
-    out.push_str(if has_list {
-        ": step, item, value, writer of the value."
-    } else {
-        "."
-    })
+    if listed == 0 {
+        return out.push('.');
+    }
+    out.push_str(step_words(has_early_read(first(&scene.exact_reads, listed))))?;
+    out.push_str(", item, value, writer of the value.")
 }
 
 /// The tables of the reads of a scene.
@@ -447,7 +496,7 @@ impl Table {
         push_words(&mut words, scene, form)?;
         let lines = lines_of(alloc, &words, space)?;
         words.clear();
-        push_exact_words(&mut words, scene, listed > 0)?;
+        push_exact_words(&mut words, scene, listed)?;
         Ok(Some(Table {
             lines,
             exact_lines: lines_of(alloc, &words, space)?,

@@ -1,5 +1,6 @@
 //! The titles of marks and charges, which are shown when a pointer is over them.
 
+use crate::excess::push_parts;
 use crate::reads::push_writer;
 use esr_outcomes::TxnKind;
 use esr_text::{push_number, push_value};
@@ -26,13 +27,15 @@ fn cause_words(cause: Cause) -> &'static str {
     }
 }
 
-/// Appends the sum that would have exceeded a limit.
+/// Appends the sum that would have exceeded a limit, with its parts.
 fn push_excess(out: &mut String, excess: Option<Excess>) -> Result<(), AllocError> {
     let Some(excess) = excess else {
         return Ok(());
     };
     out.push_str(": the sum would have been ")?;
-    push_number(out, excess.sum)?;
+    push_parts(out, excess)?;
+    out.push_str(" = ")?;
+    push_number(out, excess.sum())?;
     out.push_str(" of ")?;
     push_number(out, excess.limit)
 }

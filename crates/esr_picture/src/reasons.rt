@@ -9,6 +9,7 @@ use esr_trace::{
     Alternative, Audited, MAX_ALTERNATIVES, NearestPlacement, QueryTrace, ReadSum, Reading, Reason,
     Reasons, is_overwritten, total_of_reads,
 };
+use esr_wording::push_certificate;
 use std::alloc::{AllocError, Global};
 
 /// The maximum number of updates that have sentences and no table.
@@ -323,6 +324,19 @@ fn push_table_words(
     Ok(())
 }
 
+/// Adds the sentence on what proves that no state is nearer.
+fn push_proof(
+    alloc: Global,
+    sentences: &mut Vec<String>,
+    audited: &Audited<'_>,
+) -> Result<(), AllocError> {
+    let mut words = String::new(alloc);
+    let query = name_of_transaction(audited.transactions, audited.finding.query);
+    push_certificate(&mut words, query)?;
+    sentences.push(words)?;
+    Ok(())
+}
+
 /// Adds to a scene why the reads of a query are off.
 pub fn add_reasons(
     alloc: Global,
@@ -342,10 +356,10 @@ pub fn add_reasons(
         push_table_words(&mut words, audited, &reasons)?;
         scene.reasons.push(words)?;
         scene.rows = rows_of(alloc, audited, &reasons)?;
-        return Ok(());
+    } else {
+        for reason in &reasons.reasons {
+            push_reason(alloc, &mut scene.reasons, audited, reason)?;
+        }
     }
-    for reason in &reasons.reasons {
-        push_reason(alloc, &mut scene.reasons, audited, reason)?;
-    }
-    Ok(())
+    push_proof(alloc, &mut scene.reasons, audited)
 }

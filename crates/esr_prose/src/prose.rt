@@ -10,6 +10,7 @@ use esr_audit::Finding;
 use esr_outcomes::{TxnOutcome, outcome_of};
 use esr_text::push_number;
 use esr_trace::{Audited, QueryTrace, push_nearest_moment, push_strict, push_verdict};
+use esr_wording::push_certificate;
 use std::alloc::{AllocError, Global};
 
 /// So many points are listed at most, and then how many more there are.
@@ -108,6 +109,8 @@ fn push_answer(
     if finding.distance > 0 {
         out.push(' ')?;
         push_nearest_moment(alloc, out, &audited, trace)?;
+        out.push(' ')?;
+        push_certificate(out, subject.name(subject.query))?;
     }
     if finding.problem.must().is_empty() {
         return Ok(());

@@ -12,12 +12,12 @@ use esr_timeline_content::{
     charges_to_all, complete_notes, concerned, count_off_reads, counts_of, drawable,
     exact_reads_on, farthest_read, first_begun, greatest, keys_of, lane_at, lanes_of, mark_keys,
     mark_query_reads, marks_of, marks_on, mistakes_on, nearest_to, note_excesses, note_sides,
-    off_reads_on, reason_of_farthest, sum_of, undrawn_charges, with_drawn, with_exports,
+    off_reads_on, reason_of_farthest, sides_of, sum_of, undrawn_charges, with_drawn, with_exports,
 };
 use esr_timeline_data::{
     Arrow, ChargeSum, Farthest, Lane, ListedCharge, ListedRead, Mark, Nearest, Order, Rest, Scene,
 };
-use esr_trace::{Exceeded, QueryTrace, Traced, traces_of};
+use esr_trace::{LimitUse, QueryTrace, Traced, traces_of};
 use esr_wording::TxnCounts;
 use std::alloc::{AllocError, Global};
 
@@ -291,6 +291,8 @@ struct Material<'a> {
     chargers: Vec<TxnId>,
     /// The nearest placement of the query, or of the farthest one.
     nearest: Option<Nearest<'a>>,
+    /// Which updates are in that placement, or which are not, or nothing.
+    sides: String,
     /// The farthest read of that query, if that is off.
     farthest: Option<Farthest<'a>>,
     /// Why the update that explains that read is before the nearest placement or not, or nothing.
@@ -558,6 +560,7 @@ impl<'a> Material<'a> {
             rest,
             mistakes,
             nearest: self.nearest,
+            sides: String::from_str(alloc, self.sides.as_str())?,
             farthest: self.farthest,
             reason: String::from_str(alloc, self.reason.as_str())?,
             off_reads: self.off_reads.to_vec(alloc)?,
@@ -689,11 +692,11 @@ fn material_on<'a>(
     query: Option<TxnId>,
     lanes: Vec<Lane<'a>>,
     charges: Vec<Arrow<'a>>,
-    exceeded: &[Exceeded],
+    limit_use: LimitUse<'_>,
 ) -> Result<Material<'a>, AllocError> {
-    let lanes = with_exports(alloc, &lanes, &charges)?;
+    let lanes = with_exports(alloc, &lanes, &charges, limit_use.exports)?;
     let mut marks = marks_of(alloc, source, &lanes)?;
-    note_excesses(&mut marks, exceeded);
+    note_excesses(&mut marks, limit_use.exceeded);
     Ok(Material {
         source,
         query,
@@ -703,6 +706,7 @@ fn material_on<'a>(
         causes: Vec::new(alloc),
         chargers: Vec::new(alloc),
         nearest: None,
+        sides: String::new(alloc),
         farthest: None,
         reason: String::new(alloc),
         off_reads: Vec::new(alloc),
@@ -723,6 +727,7 @@ fn add_nearest<'a>(
         return Ok(());
     };
     material.nearest = Some(nearest_to(alloc, source, placed, trace)?);
+    material.sides = sides_of(alloc, source, placed)?;
     material.farthest = farthest;
     material.reason = reason_of_farthest(alloc, source, placed, trace)?;
     if let Some(lane) = lane_at(&material.lanes, placed.finding.query) {
@@ -761,7 +766,7 @@ fn material_about<'a>(
     note_sides(source, &mut lanes);
     let charges = between(alloc, &arrows, own, &lanes)?;
     let farthest = farthest_read(alloc, source, query, causes, trace, &arrows)?;
-    let mut material = material_on(alloc, source, Some(query), lanes, charges, traced.exceeded)?;
+    let mut material = material_on(alloc, source, Some(query), lanes, charges, traced.limit_use)?;
     if let Some(lane) = lane_at(&material.lanes, query) {
         complete_notes(source, causes, &mut material.marks, lane);
     }
@@ -802,13 +807,13 @@ pub fn timeline_of_traced<'a>(
 fn material_of_first<'a>(
     alloc: Global,
     source: Source<'a>,
-    exceeded: &[Exceeded],
+    limit_use: LimitUse<'_>,
 ) -> Result<Material<'a>, AllocError> {
     let chosen = first_begun(alloc, source, MAX_LANES)?;
     let mut lanes = lanes_of(alloc, source, &chosen)?;
     note_sides(source, &mut lanes);
     let arrows = charges_to_all(alloc, source, &lanes)?;
-    material_on(alloc, source, None, lanes, arrows, exceeded)
+    material_on(alloc, source, None, lanes, arrows, limit_use)
 }
 
 /// Returns the farthest read of a query, if it is off.
@@ -827,7 +832,7 @@ fn farthest_read_of<'a>(
 /// Returns the material of the transactions that began first, if no query has committed.
 fn material_of_start<'a>(alloc: Global, source: Source<'a>) -> Result<Material<'a>, AllocError> {
     let traces = traces_of(alloc, source.history, &[])?;
-    material_of_first(alloc, source, &traces.exceeded)
+    material_of_first(alloc, source, traces.limit_use())
 }
 
 /// Returns the material of a whole script with the nearest placement and the farthest read of the placed query.
@@ -837,7 +842,7 @@ fn material_of_whole<'a>(alloc: Global, source: Source<'a>) -> Result<Material<'
     };
     let query = placed.finding.query;
     let traces = traces_of(alloc, source.history, &[query])?;
-    let mut material = material_of_first(alloc, source, &traces.exceeded)?;
+    let mut material = material_of_first(alloc, source, traces.limit_use())?;
     if let Some(traced) = traces.of(query) {
         let farthest = farthest_read_of(alloc, source, query, traced.trace)?;
         add_nearest(alloc, &mut material, traced.trace, farthest)?;

@@ -2,12 +2,14 @@
 //! which states a strict query excludes, the farthest read, the steps that were refused, what is not drawn, and the weights.
 
 use crate::fit::Picture;
-use esr_chart::{Band, MARGIN, push_heading_words};
+use esr_chart::{Band, MARGIN, MAX_CHARGES, MAX_READS, push_heading_words};
 use esr_outcomes::TxnKind;
 use esr_text::{first, push_count, push_number, wrap};
-use esr_timeline_data::{Arrow, Farthest, Lane, Mistakes, Nearest, Order, Reason, Rest, Scene};
+use esr_timeline_data::{
+    Arrow, Farthest, Lane, ListedCharge, ListedRead, Mistakes, Nearest, Order, Reason, Rest, Scene,
+};
 use esr_trace::{push_charge_rule, push_opening};
-use esr_wording::{push_summands, push_undrawn};
+use esr_wording::{push_certificate, push_summands, push_undrawn};
 use std::alloc::{AllocError, Global};
 
 /// The width of a letter of a sentence, and of the heading.
@@ -16,7 +18,7 @@ const SENTENCE_LETTER: u32 = 8;
 const HEADING_LETTER: u32 = 10;
 
 /// The maximum number of items whose weights are listed.
-const MAX_WEIGHTS: usize = 6;
+const MAX_WEIGHTS: usize = 40;
 
 /// Appends how many of the events that are not drawn are reads that are off, or nothing.
 fn push_off_reads(out: &mut String, reads: u64) -> Result<(), AllocError> {
@@ -89,14 +91,10 @@ fn push_nearest(out: &mut String, nearest: Option<Nearest<'_>>) -> Result<(), Al
         )?;
     }
     push_state(out, nearest)?;
-    out.push('.')?;
-    if nearest.updates > 0 && nearest.updates < nearest.committed {
-        out.push_str(" Others that committed earlier may be left out.")?;
-    }
-    Ok(())
+    out.push('.')
 }
 
-/// Appends what the distance of a query is the sum of, or nothing if it is exact.
+/// Appends what the distance of a query is the sum of, and which command proves that no state is nearer, or nothing if the query is exact.
 fn push_distance(out: &mut String, nearest: Option<Nearest<'_>>) -> Result<(), AllocError> {
     let Some(nearest) = nearest else {
         return Ok(());
@@ -108,7 +106,8 @@ fn push_distance(out: &mut String, nearest: Option<Nearest<'_>>) -> Result<(), A
     write!(out, "{query} is off by ")?;
     push_number(out, nearest.distance)?;
     push_summands(out, nearest.off_reads)?;
-    out.push('.')
+    out.push_str(". ")?;
+    push_certificate(out, query)
 }
 
 /// Returns whether a lane is that of a strict query of this name.
@@ -280,6 +279,18 @@ fn push_charges(out: &mut String, arrows: &[Arrow<'_>]) -> Result<(), AllocError
     )
 }
 
+/// Appends what the charges in the heads of updates count, or nothing if all are to the queries that are drawn.
+fn push_heads(out: &mut String, scene: &Scene<'_>) -> Result<(), AllocError> {
+    if !scene.lanes.iter().any(|lane| lane.has_here_note()) {
+        return Ok(());
+    }
+    let queries = scene.query.unwrap_or("the queries that are drawn");
+    write!(
+        out,
+        "The head of an update has its charges to all queries (charged), and those to {queries} alone (here)."
+    )
+}
+
 /// An item with its weight.
 #[derive(Clone, Copy)]
 struct Weight<'a> {
@@ -312,19 +323,53 @@ fn add_weights_of_reads<'a>(
     Ok(())
 }
 
-/// Returns the items with weights above 1 of the charges that are drawn, and of the reads that are off.
+/// Adds the items of the charges in the list below the drawing.
+fn add_weights_of_charges<'a>(
+    weights: &mut Vec<Weight<'a>>,
+    charges: &[ListedCharge<'a>],
+) -> Result<(), AllocError> {
+    for charge in first(charges, MAX_CHARGES) {
+        add_weight(weights, charge.arrow.item, charge.arrow.weight)?;
+    }
+    Ok(())
+}
+
+/// Adds the items of the reads in the table below the drawing.
+fn add_weights_of_table<'a>(
+    weights: &mut Vec<Weight<'a>>,
+    reads: &[ListedRead<'a>],
+) -> Result<(), AllocError> {
+    for read in first(reads, MAX_READS) {
+        add_weight(weights, read.item, read.weight)?;
+    }
+    Ok(())
+}
+
+/// Adds the items of the charges that are drawn.
+fn add_weights_of_arrows<'a>(
+    weights: &mut Vec<Weight<'a>>,
+    arrows: &[Arrow<'a>],
+) -> Result<(), AllocError> {
+    for arrow in arrows {
+        add_weight(weights, arrow.item, arrow.weight)?;
+    }
+    Ok(())
+}
+
+/// Returns the items with weights above 1 of the charges and of the reads that are off, those that are drawn first, then those in
+/// the tables.
 fn weights_of<'a>(
     alloc: Global,
-    arrows: &[Arrow<'a>],
+    scene: &Scene<'a>,
     bands: &[Band<'a>],
 ) -> Result<Vec<Weight<'a>>, AllocError> {
     let mut weights = Vec::new(alloc);
-    for arrow in arrows {
-        add_weight(&mut weights, arrow.item, arrow.weight)?;
-    }
+    add_weights_of_arrows(&mut weights, &scene.arrows)?;
     for band in bands {
         add_weights_of_reads(&mut weights, band)?;
     }
+    add_weights_of_table(&mut weights, &scene.off_reads)?;
+    add_weights_of_charges(&mut weights, &scene.undrawn)?;
     Ok(weights)
 }
 
@@ -338,7 +383,9 @@ fn push_weights(out: &mut String, weights: &[Weight<'_>]) -> Result<(), AllocErr
         joint = ", ";
     }
     if weights.len() > MAX_WEIGHTS {
-        out.push_str(" and others")?;
+        out.push_str(" and ")?;
+        push_number(out, weights.len().saturating_sub(MAX_WEIGHTS) as u64)?;
+        out.push_str(" more")?;
     }
     if !weights.is_empty() {
         out.push('.')?;
@@ -445,9 +492,11 @@ fn push_sentences(
     letters: usize,
 ) -> Result<(), AllocError> {
     let mut words = String::new(alloc);
+    let names = letters.saturating_mul(4) / 5;
     push_nearest(&mut words, scene.nearest)?;
-    push_lines(alloc, lines, LineClass::Sentence, &words, letters)?;
+    push_lines(alloc, lines, LineClass::Sentence, &words, names)?;
     words.clear();
+    push_lines(alloc, lines, LineClass::Sentence, &scene.sides, names)?;
     push_distance(&mut words, scene.nearest)?;
     push_lines(alloc, lines, LineClass::Sentence, &words, letters)?;
     words.clear();
@@ -456,7 +505,6 @@ fn push_sentences(
     words.clear();
     push_farthest(&mut words, scene.farthest)?;
     push_lines(alloc, lines, LineClass::Sentence, &words, letters)?;
-    let names = letters.saturating_mul(4) / 5;
     push_lines(alloc, lines, LineClass::Sentence, &scene.reason, names)?;
     words.clear();
     push_mistakes(&mut words, scene.mistakes)?;
@@ -468,7 +516,10 @@ fn push_sentences(
     push_charges(&mut words, &scene.arrows)?;
     push_lines(alloc, lines, LineClass::Sentence, &words, letters)?;
     words.clear();
-    push_weights(&mut words, &weights_of(alloc, &scene.arrows, bands)?)?;
+    push_heads(&mut words, scene)?;
+    push_lines(alloc, lines, LineClass::Sentence, &words, letters)?;
+    words.clear();
+    push_weights(&mut words, &weights_of(alloc, scene, bands)?)?;
     push_lines(alloc, lines, LineClass::Sentence, &words, letters)
 }
 

@@ -5,10 +5,10 @@ use crate::causes::{Causes, ranking};
 use crate::lanes::lane_at;
 use crate::marks::line_at;
 use crate::source::Source;
-use esr_history::TxnId;
+use esr_history::{Event, TxnId};
 use esr_items::Metric;
 use esr_report::name_of_transaction;
-use esr_timeline_data::{Arrow, ChargeSum, Lane, ListedCharge, Relation};
+use esr_timeline_data::{Arrow, ChargeSum, ChargedEvent, Lane, ListedCharge, Relation};
 use esr_trace::QueryTrace;
 use esr_trace_events::{Change, Charge, Charges};
 use std::alloc::{AllocError, Global};
@@ -23,6 +23,14 @@ struct LaneCharge {
     amount: u64,
 }
 
+/// Returns the kind of an event that was charged.
+fn charged_event(event: Event) -> ChargedEvent {
+    match event {
+        Event::Read { .. } => ChargedEvent::Read,
+        _ => ChargedEvent::Write,
+    }
+}
+
 /// Returns the arrow of a charge.
 fn arrow_of<'a>(
     source: Source<'a>,
@@ -32,6 +40,7 @@ fn arrow_of<'a>(
 ) -> Arrow<'a> {
     let Change { item, old, new } = charge.change;
     let entry = source.history.log().get(charge.place);
+    let event = entry.map_or(ChargedEvent::Write, |entry| charged_event(entry.event));
     Arrow {
         update: charge.update,
         from: lane_at(lanes, charge.update),
@@ -41,6 +50,7 @@ fn arrow_of<'a>(
         item: source.items.name_of(item.0).unwrap_or(""),
         weight: source.history.metric().distance(item, 0, 1),
         amount: charge.amount,
+        event,
         old,
         new,
         explained: causes.explained(charge.update, item),
@@ -161,17 +171,24 @@ pub fn drawable<'a>(alloc: Global, arrows: &[Arrow<'a>]) -> Result<Vec<Arrow<'a>
     Ok(kept)
 }
 
-/// Returns the lanes. The lane of an update has the sum of its charges.
+/// Returns the export of a transaction.
+fn export_of(exports: &[u64], txn: TxnId) -> Option<u64> {
+    exports.get(txn.0 as usize).copied()
+}
+
+/// Returns the lanes. The lane of an update has its export, and the sum of these charges by it.
 pub fn with_exports<'a>(
     alloc: Global,
     lanes: &[Lane<'a>],
     arrows: &[Arrow<'a>],
+    exports: &[u64],
 ) -> Result<Vec<Lane<'a>>, AllocError> {
     let mut noted = Vec::with_capacity(alloc, lanes.len())?;
     for (number, lane) in lanes.iter().enumerate() {
         let mut lane = *lane;
         if !lane.is_query() {
-            lane.charged = lane.sum_of(number, arrows);
+            lane.here = lane.sum_of(number, arrows);
+            lane.charged = export_of(exports, lane.txn).unwrap_or(lane.here);
         }
         noted.push(lane)?;
     }

@@ -245,12 +245,14 @@ pub fn placements_of(
 /// Returns the lane of a transaction.
 fn lane_of<'a>(alloc: Global, source: Source<'a>, txn: TxnId) -> Result<Lane<'a>, AllocError> {
     let facts = source.history.facts(txn);
+    let import = source.history.import(txn);
     Ok(Lane {
         txn,
         name: name_of_transaction(source.transactions, txn),
         kind: kind_of(source.history, txn),
         limit: facts.map_or(0, |facts| facts.limit),
-        charged: source.history.import(txn),
+        charged: import,
+        here: import,
         drawn: 0,
         outcome: outcome_of(source.history, txn),
         distance: source.distance(alloc, txn)?,

@@ -13,6 +13,7 @@ mod lanes;
 mod marks;
 mod notes;
 mod predecessors;
+mod sides;
 mod source;
 
 pub use causes::Causes;
@@ -30,4 +31,5 @@ pub use marks::{
     mistakes_on, note_excesses, off_reads_on,
 };
 pub use notes::complete_notes;
+pub use sides::sides_of;
 pub use source::{PlacedQuery, Source};

@@ -1,13 +1,13 @@
 //! The marks on lanes: one pass over the log. An event that was blocked and tried again at once has one mark.
 
 use crate::lanes::{blocker_of, lane_at, placements_of};
-use crate::notes::{note_of, writer_in, writer_read};
+use crate::notes::{note_of, status_of, writer_in, writer_read};
 use crate::source::Source;
 use esr_history::{Entry, Event, Refusal, Reply};
 use esr_items::{ItemId, Metric};
 use esr_report::name_of_transaction;
 use esr_timeline_data::{
-    Action, Arrow, Cause, Excess, Lane, ListedRead, Mark, Mistakes, Note, Writer,
+    Action, Arrow, Cause, Excess, Lane, ListedRead, Mark, Mistakes, Note, Writer, WriterStatus,
 };
 use esr_trace::{Exceeded, NearestPlacement};
 use std::alloc::{AllocError, Global};
@@ -116,6 +116,7 @@ fn mark_with<'a>(
         blocker: blocker_name(source, entry.reply),
         is_key: false,
         writer: None,
+        writer_status: WriterStatus::Committed,
         state_writer: None,
         note: None,
     }
@@ -157,7 +158,9 @@ fn mark_of<'a>(
     let lane = lane_at(lanes, entry.txn()?)?;
     let mut mark = mark_with(source, lane, place, entry, action_of(entry)?);
     if matches!(mark.action, Action::Read { .. }) {
-        mark.writer = Some(writer_read(source, place));
+        let writer = writer_read(source, place);
+        mark.writer = Some(writer);
+        mark.writer_status = status_of(source, writer, place);
     }
     if let Some(placement) = placements.get(lane) {
         compare(source, placement, &mut mark, entry.event);
@@ -442,8 +445,10 @@ fn listed_read<'a>(mark: &Mark<'a>, lane: usize) -> Option<(ListedRead<'a>, bool
     let read = ListedRead {
         step: (mark.place as u64).saturating_add(1),
         item: mark.item,
+        weight: mark.weight,
         value,
         writer: mark.writer.unwrap_or(Writer::Opening),
+        writer_status: mark.writer_status,
         state: nearest.unwrap_or(value),
         state_writer: mark.state_writer.unwrap_or(Writer::Opening),
         is_late: is_late(mark),
@@ -501,7 +506,8 @@ fn note_excess(mark: &mut Mark<'_>, exceeded: &[Exceeded]) {
         && let Some(found) = exceeded.get(index)
     {
         *excess = Some(Excess {
-            sum: found.sum,
+            used: found.used,
+            due: found.due,
             limit: found.limit,
         });
     }

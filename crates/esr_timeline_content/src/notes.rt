@@ -10,7 +10,7 @@ use esr_history::{Event, TxnId};
 use esr_items::ItemId;
 use esr_outcomes::{TxnOutcome, outcome_of};
 use esr_report::name_of_transaction;
-use esr_timeline_data::{Mark, Note, NotedWrite, Writer};
+use esr_timeline_data::{Mark, Note, NotedWrite, Writer, WriterStatus};
 use esr_trace::NearestPlacement;
 
 /// An accepted write.
@@ -85,6 +85,25 @@ fn writer_of(source: Source<'_>, write: Option<Write>) -> Writer<'_> {
 /// Returns the writer of the value that the read of an entry returned.
 pub fn writer_read(source: Source<'_>, place: usize) -> Writer<'_> {
     writer_of(source, write_read(source, place))
+}
+
+/// Returns the state that the writer of a value had when the read of an entry returned the value.
+pub fn status_of(source: Source<'_>, writer: Writer<'_>, place: usize) -> WriterStatus {
+    let Writer::Update(_, step) = writer else {
+        return WriterStatus::Committed;
+    };
+    let Some(write) = write_at(source, step.saturating_sub(1)) else {
+        return WriterStatus::Committed;
+    };
+    let facts = source.history.facts(write.update);
+    let end = facts.and_then(|facts| facts.end);
+    if end.is_some_and(|end| (end as usize) < place) {
+        WriterStatus::Committed
+    } else if outcome_of(source.history, write.update) == TxnOutcome::Aborted {
+        WriterStatus::Aborted
+    } else {
+        WriterStatus::Active
+    }
 }
 
 /// Returns the writer of the value of an item in a placement.

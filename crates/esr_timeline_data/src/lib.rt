@@ -8,7 +8,7 @@
 mod scene;
 
 pub use scene::{
-    Action, Arrow, Cause, ChargeSum, Excess, Farthest, Lane, ListedCharge, ListedRead, Mark,
-    Mistakes, Nearest, Note, NotedWrite, Order, Reason, Relation, Rest, Scene, Writer,
-    weight_letters,
+    Action, Arrow, Cause, ChargeSum, ChargedEvent, Excess, Farthest, Lane, ListedCharge,
+    ListedRead, Mark, Mistakes, Nearest, Note, NotedWrite, Order, Reason, Relation, Rest, Scene,
+    Writer, WriterStatus, weight_letters,
 };

@@ -5,7 +5,10 @@ use esr_outcomes::{TxnKind, TxnOutcome};
 use esr_text::number_letters;
 use esr_wording::{OffReads, TxnCounts};
 
-/// The maximum number of letters of two amounts in a head.
+/// The maximum number of letters of the charges in a head with those to the queries that are drawn.
+const MAX_HERE: usize = 34;
+
+/// The maximum number of letters of the amounts in a head with those that are drawn.
 const MAX_NOTE: usize = 26;
 
 /// A lane: a transaction from its begin to its end.
@@ -15,9 +18,11 @@ pub struct Lane<'a> {
     pub name: &'a str,
     pub kind: TxnKind,
     pub limit: u64,
-    /// The import of a query; of an update the sum of its charges to the queries that are drawn.
+    /// The import of a query; of an update the sum of its charges to all queries.
     pub charged: u64,
-    /// The part of it whose charges are drawn.
+    /// The part of it that the timeline is about: of an update the sum of its charges to the queries that are drawn.
+    pub here: u64,
+    /// The part of that whose charges are drawn.
     pub drawn: u64,
     pub outcome: TxnOutcome,
     /// The distance of a committed query.
@@ -48,10 +53,37 @@ impl Lane<'_> {
         sum
     }
 
-    /// Returns whether the head says how much of the charges is drawn: if that is less, and there is space.
+    /// Returns whether the head says how much of the charges is to the queries that are drawn: if that is less, and there is
+    /// space.
+    pub fn has_here_note(&self) -> bool {
+        self.here < self.charged && self.letters_with_here() <= MAX_HERE
+    }
+
+    /// Returns whether the head says how much of these charges is drawn: if that is less, and there is space.
     pub fn has_drawn_note(&self) -> bool {
-        let letters = number_letters(self.charged).saturating_add(number_letters(self.drawn));
-        self.drawn < self.charged && letters <= MAX_NOTE
+        let letters = self
+            .letters_with_here()
+            .saturating_add(number_letters(self.drawn));
+        self.drawn < self.here && letters <= MAX_NOTE
+    }
+
+    /// Returns the number of notes on the charges in the head.
+    pub fn count_notes(&self) -> u32 {
+        match (self.has_here_note(), self.has_drawn_note()) {
+            (true, true) => 2,
+            (true, false) | (false, true) => 1,
+            (false, false) => 0,
+        }
+    }
+
+    /// Returns the letters of the charges, and of those to the queries that are drawn if these are less.
+    fn letters_with_here(&self) -> usize {
+        let letters = number_letters(self.charged);
+        if self.here < self.charged {
+            letters.saturating_add(number_letters(self.here))
+        } else {
+            letters
+        }
     }
 }
 
@@ -73,18 +105,28 @@ pub enum Action {
         value: Option<i64>,
         cause: Cause,
         times: u64,
-        /// The sum that would have exceeded a limit, at the last time.
+        /// The sum that would have exceeded a limit, at the first time.
         excess: Option<Excess>,
     },
     Commit,
     Abort,
 }
 
-/// A limit, and the sum of charges that would have exceeded it.
+/// A limit, and the parts of the sum of charges that would have exceeded it.
 #[derive(Clone, Copy, PartialEq, Eq)]
 pub struct Excess {
-    pub sum: u64,
+    /// The charges to the limit before the event.
+    pub used: u64,
+    /// The charge of the event to the limit.
+    pub due: u64,
     pub limit: u64,
+}
+
+impl Excess {
+    /// Returns the sum.
+    pub fn sum(self) -> u64 {
+        self.used.saturating_add(self.due)
+    }
 }
 
 /// The reason why an event was blocked.
@@ -102,6 +144,17 @@ pub enum Writer<'a> {
     Opening,
     /// The name of the update, and the step of its write.
     Update(&'a str, u64),
+}
+
+/// The state of the update that wrote a value, when the value was read.
+#[derive(Clone, Copy, PartialEq, Eq)]
+pub enum WriterStatus {
+    /// It had committed, or the value is the opening value.
+    Committed,
+    /// It was active, and did not abort later.
+    Active,
+    /// It was active, and aborted later.
+    Aborted,
 }
 
 /// A write that explains the value of a read.
@@ -150,8 +203,9 @@ pub struct Mark<'a> {
     pub blocker: &'a str,
     /// True if a drawn charge depends on it, if it was blocked, or if it is a read that is off.
     pub is_key: bool,
-    /// The writer of the value of a read.
+    /// The writer of the value of a read, and the state that it had then.
     pub writer: Option<Writer<'a>>,
+    pub writer_status: WriterStatus,
     /// The writer of the value in the nearest placement of the query.
     pub state_writer: Option<Writer<'a>>,
     /// What explains the value of a read, if that needs an explanation.
@@ -195,6 +249,7 @@ pub struct Arrow<'a> {
     /// The factor of differences of the item.
     pub weight: u64,
     pub amount: u64,
+    pub event: ChargedEvent,
     /// The values whose difference was charged.
     pub old: i64,
     pub new: i64,
@@ -211,11 +266,23 @@ impl Arrow<'_> {
         (self.place as u64).saturating_add(1)
     }
 
+    /// Returns whether the charge is for a read of a value before its update committed.
+    pub fn is_early_read(&self) -> bool {
+        self.event == ChargedEvent::Read
+    }
+
     /// Returns how often the difference was charged: once for each read of the item.
     pub fn reads(&self) -> u64 {
         let difference = self.old.abs_diff(self.new).saturating_mul(self.weight);
         self.amount.checked_div(difference).unwrap_or(1)
     }
+}
+
+/// The event that was charged.
+#[derive(Clone, Copy, PartialEq, Eq)]
+pub enum ChargedEvent {
+    Read,
+    Write,
 }
 
 /// The relation of a charge to the reads that it explains.
@@ -319,6 +386,8 @@ pub struct Scene<'a> {
     pub mistakes: Mistakes,
     /// The nearest placement of the query that the timeline is about, or of the farthest one.
     pub nearest: Option<Nearest<'a>>,
+    /// Which updates are in that placement, or which are not: the fewer ones, or nothing if there are none.
+    pub sides: String,
     /// The farthest read of that query, if it is off.
     pub farthest: Option<Farthest<'a>>,
     /// Why the update that explains the farthest read is before the nearest placement or not, or nothing.
@@ -352,12 +421,22 @@ pub struct ListedCharge<'a> {
 pub struct ListedRead<'a> {
     pub step: u64,
     pub item: &'a str,
+    /// The factor of differences of the item.
+    pub weight: u64,
     pub value: i64,
     pub writer: Writer<'a>,
+    pub writer_status: WriterStatus,
     /// The value in the nearest placement, and its writer.
     pub state: i64,
     pub state_writer: Writer<'a>,
     /// Whether the writer of the value is not before the placement.
     pub is_late: bool,
     pub distance: u64,
+}
+
+impl ListedRead<'_> {
+    /// Returns whether the update that wrote the value had not committed.
+    pub fn is_early_read(&self) -> bool {
+        self.writer_status != WriterStatus::Committed
+    }
 }

@@ -30,4 +30,4 @@ pub use sentences::{
 pub use subject::Audited;
 pub use sum_errors::sum_error;
 pub use trace::{Cause, ChargeGroup, ObservedRead, QueryTrace, Sum, WriterEnd};
-pub use traces::{Exceeded, Traced, Traces, trace_of, traces_of};
+pub use traces::{Exceeded, LimitUse, Traced, Traces, trace_of, traces_of};

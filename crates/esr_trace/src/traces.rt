@@ -1,4 +1,4 @@
-//! The traces of several queries, and the sums that would have exceeded a limit, from one replay of their history.
+//! The traces of several queries, and the use of all limits, from one replay of their history.
 //!
 //! A replay takes as long as a run, so a page makes one for all queries that it describes.
 
@@ -9,6 +9,9 @@ use esr_items::Metric;
 use esr_order::accesses_of;
 use esr_replay::{MetricRef, Replay, imported};
 use std::alloc::{AllocError, Global};
+
+/// The greatest number of a transaction.
+const MAX_NUMBER: usize = 4_294_967_294;
 
 /// An item before an entry that reads or writes it.
 #[derive(Clone, Copy)]
@@ -34,9 +37,20 @@ pub struct Step {
 pub struct Exceeded {
     /// The place of the entry in the log.
     pub place: usize,
-    /// The sum of charges that the event would have reached.
-    pub sum: u64,
+    /// The charges to the limit before the event.
+    pub used: u64,
+    /// The charge of the event to the limit.
+    pub due: u64,
     pub limit: u64,
+}
+
+/// The use of the limits of a history.
+#[derive(Clone, Copy)]
+pub struct LimitUse<'a> {
+    /// The entries that were refused because of a limit, in their order.
+    pub exceeded: &'a [Exceeded],
+    /// The charges of each transaction to all queries, by its number.
+    pub exports: &'a [u64],
 }
 
 /// The traces of several queries.
@@ -44,26 +58,33 @@ pub struct Exceeded {
 pub struct Traces {
     /// The traces, in the order of the queries that were asked for.
     pub queries: Vec<QueryTrace>,
-    /// The entries that were refused because of a limit, in their order.
-    pub exceeded: Vec<Exceeded>,
+    exceeded: Vec<Exceeded>,
+    exports: Vec<u64>,
 }
 
 /// The trace of a query among those of others.
 #[derive(Clone, Copy)]
 pub struct Traced<'a> {
     pub trace: &'a QueryTrace,
-    /// The entries of the history that were refused because of a limit, in their order.
-    pub exceeded: &'a [Exceeded],
+    pub limit_use: LimitUse<'a>,
 }
 
 impl Traces {
+    /// Returns the use of the limits of the history.
+    pub fn limit_use(&self) -> LimitUse<'_> {
+        LimitUse {
+            exceeded: &self.exceeded,
+            exports: &self.exports,
+        }
+    }
+
     /// Returns the trace of a query, if it was asked for.
     pub fn of(&self, query: TxnId) -> Option<Traced<'_>> {
         for trace in &self.queries {
             if trace.is_of(query) {
                 return Some(Traced {
                     trace,
-                    exceeded: &self.exceeded,
+                    limit_use: self.limit_use(),
                 });
             }
         }
@@ -89,8 +110,8 @@ fn sum_of(charges: &[(TxnId, u64)]) -> u64 {
     sum
 }
 
-/// Returns the sum that the next entry would have reached, with the charges that the machine computes, if it was refused because
-/// of a limit.
+/// Returns the use of a limit with the charges that the machine computes for the next entry, if it was refused because of that
+/// limit.
 fn exceeded_by<M: Metric>(
     alloc: Global,
     replay: &Replay<'_, M>,
@@ -115,7 +136,8 @@ fn exceeded_by<M: Metric>(
     let facts = machine.history().facts(txn);
     Ok(Some(Exceeded {
         place: machine.log().len(),
-        sum: used.saturating_add(due),
+        used,
+        due,
         limit: facts.map_or(0, |facts| facts.limit),
     }))
 }
@@ -190,6 +212,16 @@ impl<M: Metric> Recorder<'_, M> {
         self.note(alloc, step)
     }
 
+    /// Notes the charges of each transaction to all queries.
+    fn note_exports(&mut self) -> Result<(), AllocError> {
+        let machine = self.replay.machine();
+        let count = machine.history().begun_count().min(MAX_NUMBER) as u32;
+        for number in 0..count.saturating_add(1) {
+            self.traces.exports.push(machine.export(TxnId(number)))?;
+        }
+        Ok(())
+    }
+
     /// Executes and notes the next `count` entries.
     fn run(&mut self, alloc: Global, count: usize) -> Result<(), AllocError> {
         for _ in 0..count {
@@ -210,6 +242,7 @@ fn recorder_of<'a, M: Metric>(
     let traces = Traces {
         queries: empty_traces(alloc, history, queries)?,
         exceeded: Vec::new(alloc),
+        exports: Vec::new(alloc),
     };
     match Replay::new(alloc, history) {
         Ok(replay) => Ok(Recorder {
@@ -242,6 +275,7 @@ pub fn traces_of<M: Metric>(
 ) -> Result<Traces, AllocError> {
     let mut recorder = recorder_of(alloc, history, queries)?;
     recorder.run(alloc, history.log().len())?;
+    recorder.note_exports()?;
     let Recorder { traces, .. } = recorder;
     Ok(traces)
 }

@@ -11,4 +11,4 @@ mod text;
 
 pub use counts::{TxnClass, TxnCounts, class_of, push_undrawn};
 pub use summands::{OffReads, push_summands};
-pub use text::{MAX_NAMES, outcome_words, push_names, push_rest};
+pub use text::{MAX_NAMES, outcome_words, push_certificate, push_names, push_rest};

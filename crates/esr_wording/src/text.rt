@@ -18,6 +18,14 @@ pub fn outcome_words(outcome: TxnOutcome) -> &'static str {
     }
 }
 
+/// Appends which command proves that no state is nearer to a query.
+pub fn push_certificate(out: &mut String, query: &str) -> Result<(), AllocError> {
+    write!(
+        out,
+        "No allowed set of updates is nearer: the certificate of esr certify {query} proves it."
+    )
+}
+
 /// Returns the separator before the name at `place`: nothing, a comma or `and`.
 fn joint(place: usize, count: usize) -> &'static str {
     if place == 0 {

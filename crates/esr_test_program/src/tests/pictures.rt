@@ -26,7 +26,7 @@ pub const BANK: &str = "item checking 500\n\
         commit report\n";
 
 /// The picture of the bank, without the first line, the style and the legend.
-static BANK_DRAWN: [&str; 29] = [
+static BANK_DRAWN: [&str; 30] = [
     "<title id='report-title'>Audit of report</title>\n",
     "<desc id='report-desc'>Off by 100, charged 100. In order: [report], transfer. savings: read 1,600, off by 100 from its place. checking: read 500, as at its place.</desc>\n",
     "<text class='h' x='20' y='28'>report: off by 100, charged 100</text>\n",
@@ -56,6 +56,7 @@ static BANK_DRAWN: [&str; 29] = [
     "<text class='q' x='20' y='570'>Why transfer is not in the nearest state:</text>\n",
     "<text class='q' x='20' y='590'>if it were, savings would be nearer by 100;</text>\n",
     "<text class='q' x='20' y='610'>but checking farther by 100: as far off.</text>\n",
+    "<text class='q' x='20' y='630'>No allowed set of updates is nearer: the</text>\n",
 ];
 
 /// An update, and a report that reads nothing.

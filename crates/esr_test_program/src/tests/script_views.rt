@@ -18,7 +18,8 @@ use std::str::from_utf8;
 /// The whole prose about the report of the bank.
 static BANK_TOLD: &str = "\
 What report read was never a consistent state. The nearest state, before all
-updates, differs by 100 in one read.
+updates, differs by 100 in one read. No allowed set of updates is nearer: the
+certificate of esr certify report proves it.
 
 report is a query that began in line 3 and committed in line 10.
 
@@ -251,8 +252,8 @@ fn blocked_events_are_drawn(rt: HostRuntime) {
         "<title>step 5, line 6: v was blocked from reading a by the lock of u, 2 times</title><path class='mx' ",
         ">lock of u, 2 times</text>\n",
         ">tried to read</text>\n",
-        "<title>step 7, line 8: q was blocked from reading a by the limit of q: the sum would have been 2 of 1</title>",
-        ">sum 2, limit 1</text>\n",
+        "<title>step 7, line 8: q was blocked from reading a by the limit of q: the sum would have been 0 + 2 = 2 of 1</title>",
+        ">0 + 2 = 2 > 1</text>\n",
         ">aborted</text>\n",
         ">still active</text>\n",
         ">1 line of the script has an error and is not drawn.</text>\n",
