@@ -1,7 +1,8 @@
 """Eight threads with exceptions, deadlocks, reports and renewals: every committed update is in the script of one history,
 and the audits of the bank are those of the scripts.
 
-`ESR_SOAK_SECONDS` is the duration, 2 by default. `ESR_PROGRAM` names the program `esr`, which audits each script.
+`ESR_SOAK_SECONDS` is the duration, 2 by default. On a slow machine the load continues until each kind of event has occurred.
+`ESR_PROGRAM` names the program `esr`, which audits each script.
 """
 
 import collections
@@ -18,6 +19,9 @@ from unittest import mock
 from esr import Bank, Deadlock
 
 PROGRAM = os.environ.get("ESR_PROGRAM")
+SECONDS = float(os.environ.get("ESR_SOAK_SECONDS", "2"))
+# How long the load continues at most after its duration, in seconds.
+PATIENCE = 120
 LARGE = 10**9
 NAMES = [f"account{n}" for n in range(12)]
 
@@ -90,14 +94,24 @@ class Histories:
 
 class Soak(unittest.TestCase):
     def setUp(self):
-        self.end = time.monotonic() + float(os.environ.get("ESR_SOAK_SECONDS", "2"))
+        self.end = time.monotonic() + SECONDS
         self.change, self.committed, self.reports = collections.Counter(), set(), []
         self.failed = collections.Counter()
+
+    def figures(self, bank):
+        """What has to occur at least once."""
+        metrics = bank.metrics()
+        return metrics.updates, metrics.reports, metrics.aborts, metrics.renewals
+
+    def continues(self, bank):
+        """Whether the load continues: for its duration, and until each kind of event has occurred."""
+        now = time.monotonic()
+        return now < self.end or now < self.end + PATIENCE and not all(self.figures(bank))
 
     def client(self, bank, one):
         """Moves money until the end, in functions and step by step. Some bodies fail, and some close a ring."""
         seed, count = one, 0
-        while time.monotonic() < self.end:
+        while self.continues(bank):
             seed = seed * 1_103_515_245 + 12_345 & 0x7FFFFFFF
             source, target, kind = NAMES[(seed >> 8) % 12], NAMES[(seed >> 14) % 12], (seed >> 20) % 40
             count += 1
@@ -127,7 +141,7 @@ class Soak(unittest.TestCase):
     def clerk(self, bank, one, audits):
         """Sums all accounts until the end, and audits every report at once or none."""
         count = 0
-        while time.monotonic() < self.end:
+        while self.continues(bank):
             count += 1
             with bank.report(LARGE, name=f"r{one}x{count}") as report:
                 total = 0
@@ -174,7 +188,7 @@ class Soak(unittest.TestCase):
                 compared += 1
         self.assertEqual((metrics.updates, metrics.reports), (len(self.committed), len(self.reports)))
         self.assertEqual((metrics.aborts, metrics.active), (sum(self.failed.values()), 0))
-        self.assertGreater(min(metrics.updates, metrics.reports, metrics.aborts, metrics.renewals), 0)
+        self.assertGreater(min(self.figures(bank)), 0)
         deadlocks = sum(count for (_, kind), count in self.failed.items() if kind is Deadlock)
         print(f"{metrics.updates} updates, {metrics.aborts} failed, {metrics.deadlocks} deadlocks, {deadlocks} of them raised")
         print(f"{histories.count} histories, {metrics.carried} updates carried, {compared} of {metrics.reports} audits")

@@ -1,6 +1,7 @@
 """Audits in the background: a second engine finds what the bank's own engine finds, and otherwise the bank audits itself.
 
-`ESR_SOAK_SECONDS` is the duration of the random load, 2 by default.
+`ESR_SOAK_SECONDS` is the duration of the random load, 2 by default. On a slow machine it continues until each kind of event has
+occurred.
 """
 
 import collections
@@ -20,6 +21,9 @@ import esr
 from esr import Bank, BankClosed, Blocked, Deadlock, HandleExpired
 from esr._twin import Feed, audited, entries_of
 
+SECONDS = float(os.environ.get("ESR_SOAK_SECONDS", "2"))
+# How long the random load continues at most after its duration, in seconds.
+PATIENCE = 120
 NAMES = [f"account{n}" for n in range(6)]
 LARGE = 10**9
 LIBRARY = esr._bank.c.library
@@ -77,9 +81,21 @@ def off_by_seven(bank, item="a"):
 class Load:
     """Threads that move money in every way, with exceptions and deadlocks, next to reports."""
 
-    def __init__(self, bank, seconds):
-        self.bank, self.end = bank, time.monotonic() + seconds
+    def __init__(self, bank):
+        self.bank, self.end = bank, time.monotonic() + SECONDS
         self.counts, self.errors = [], []
+
+    def figures(self):
+        """What has to occur at least once."""
+        metrics, figures = self.bank.metrics(), collections.Counter(audits=0, exact=0, compared=0, off=0)
+        for counts in self.counts:
+            figures.update(counts)
+        return {**figures, "updates": metrics.updates, "renewals": metrics.renewals, "carried": metrics.carried}
+
+    def continues(self):
+        """Whether the load continues: for its duration, and until each kind of event has occurred."""
+        now = time.monotonic()
+        return now < self.end or now < self.end + PATIENCE and not all(self.figures().values())
 
     def body(self, draw):
         source, target, kind = draw.choice(NAMES), draw.choice(NAMES), draw.randrange(8)
@@ -99,7 +115,7 @@ class Load:
 
     def client(self, seed):
         draw = random.Random(seed)
-        while time.monotonic() < self.end:
+        while self.continues():
             # (one that a report with a small limit blocks may lose its patience)
             with contextlib.suppress(ZeroDivisionError, Blocked, Deadlock):
                 body, limit = self.body(draw), 5 if draw.randrange(20) == 0 else LARGE
@@ -112,7 +128,7 @@ class Load:
     def clerk(self, seed):
         draw, counts = random.Random(seed), collections.Counter()
         self.counts.append(counts)
-        while time.monotonic() < self.end:
+        while self.continues():
             try:
                 with self.bank.report(draw.choice((50, 500, LARGE)), strict=draw.randrange(3) == 0) as report:
                     for _ in range(draw.randrange(1, 8)):
@@ -131,7 +147,7 @@ class Load:
 
     def slow(self):
         """A report and an update that are carried over renewals."""
-        while time.monotonic() < self.end:
+        while self.continues():
             with contextlib.suppress(Blocked, Deadlock), self.bank.report(LARGE) as report:
                 report.read(NAMES[0])
                 with self.bank.update(LARGE) as update:
@@ -160,17 +176,16 @@ class Findings(unittest.TestCase):
         """On a random load with renewals, and with carried transactions."""
         for optimistic in (True, False):
             bank = Bank({**{name: 1_000 for name in NAMES}, "x": 0, "y": 0}, weights={NAMES[0]: 3}, patience=0.1, optimistic=optimistic)
-            load = Load(bank, float(os.environ.get("ESR_SOAK_SECONDS", "2")))
+            load = Load(bank)
             with mock.patch("esr._bank.NEARLY_FULL", 997_000):
                 clients = [lambda seed=seed: load.client(seed) for seed in (1, 2, 3)]
                 load.run(*clients, *[lambda seed=seed: load.clerk(seed) for seed in (4, 5)], load.slow)
             self.assertEqual(load.errors, [])
-            counts, metrics = sum(load.counts, collections.Counter()), bank.metrics()
-            figures = {**counts, "updates": metrics.updates, "renewals": metrics.renewals, "carried": metrics.carried}
+            figures, metrics = load.figures(), bank.metrics()
             print(", ".join(f"{number} {name}" for name, number in figures.items()))
             self.assertGreater(min(figures.values()), 0)
             # the second engine was never given up: findings that are not exact are bounds
-            self.assertEqual((metrics.audits, metrics.background_audits), (counts["audits"], counts["exact"]))
+            self.assertEqual((metrics.audits, metrics.background_audits), (figures["audits"], figures["exact"]))
             bank.close()
 
     def test_a_history_of_carried_transactions(self):
@@ -632,7 +647,7 @@ else:
 """
         for word in ("idle", "busy"):
             command = [sys.executable, "-c", program, word]
-            done = subprocess.run(command, capture_output=True, text=True, check=False, timeout=60)
+            done = subprocess.run(command, capture_output=True, text=True, check=False, timeout=600)
             self.assertEqual((done.returncode, done.stdout, done.stderr), (0, "", ""), word)
 
 
