@@ -34,15 +34,15 @@ placed_ends {a} {b} {c} {i} {j} {k} text half within fits covers p q =
     (λ x. take-take last half text (omega arith) x ++ take_all half (drop last text) (omega (arith, length-drop last text)) x) ∙ take-append-drop last text in
     record { bytes = both.bytes ∙ ap (λ l. take i a ++ l) whole; moved = both.moved ∙ ap (λ l. i + length l) whole; len = both.len }
 
--- another byte at place 2 of a text
-pub placed_third : {a b line : List ℕ} {i j : ℕ} → i ≤ length a → 2 < length line → Placed a b i line j → Placed a (set b (i + 2) 111) i (set line 2 111) j
-placed_third {a} {b} {line} {i} {j} within long p =
+-- another byte at a place of a text
+pub placed_byte : {a b line : List ℕ} {i j : ℕ} (k byte : ℕ) → i ≤ length a → k < length line → Placed a b i line j → Placed a (set b (i + k) byte) i (set line k byte) j
+placed_byte {a} {b} {line} {i} {j} k byte within long p =
     let size : length (take i a) ≡ i = length-take-le i a within in
     record {
-      bytes = take-set-lt j b (i + 2) 111 (omega (arith, p.moved, long)) ∙ ap (λ l. set l (i + 2) 111) p.bytes
-          ∙ ap (λ n. set (take i a ++ line) (n + 2) 111) (sym size) ∙ echoed (take i a) line 111;
-      moved = p.moved ∙ ap (λ n. i + n) (sym (length-set line 2 111));
-      len = length-set b (i + 2) 111 ∙ p.len;
+      bytes = take-set-lt j b (i + k) byte (omega (arith, p.moved, long)) ∙ ap (λ l. set l (i + k) byte) p.bytes
+          ∙ ap (λ n. set (take i a ++ line) (n + k) byte) (sym size) ∙ echoed (take i a) line k byte;
+      moved = p.moved ∙ ap (λ n. i + n) (sym (length-set line k byte));
+      len = length-set b (i + k) byte ∙ p.len;
     }
 
 -- a buffer that was made longer, or stayed as it was

@@ -1,5 +1,6 @@
-//! Replies that repeat the words of their line: these are copied from it in one piece, and no number is formatted. The
-//! reply to a write is its line, in which `write` becomes `wrote`.
+//! Replies that repeat the words of their line: these are copied from it in one piece, and no number of the line is
+//! formatted. The reply to a write is its line, in which `write` becomes `wrote`; that to a begin has the first two words
+//! of its line, in which `begin` becomes `begun`.
 
 ghost use Rattle.std.specs.Prelude.{◌≡◌, ◌++◌, OnOk, OnErr};
 ghost use Rattle.esr_report.specs.Lines.{reply_line};
@@ -18,6 +19,10 @@ pub enum Echo<'a> {
     Read(&'a [u8]),
     /// The line of a write.
     Write(&'a [u8]),
+    /// The first two words of the line of a begin.
+    Begin(&'a [u8]),
+    /// Nothing but the name of a commit.
+    Commit,
 }
 
 /// Appends the line of any reply.
@@ -39,7 +44,7 @@ fn push_other_reply(
 }
 
 /// Appends the line of the machine's reply to an event that names the subject, given its line or the words of it.
-#[tactic(auto, using(crate::proofs::Echoes::wrote, crate::proofs::Echoes::is_long))]
+#[tactic(auto, using(crate::proofs::Echoes::wrote, crate::proofs::Echoes::is_long, crate::proofs::Echoes::begun, crate::proofs::Echoes::is_begin_long))]
 #[inline(always)]
 pub fn push_reply(
     out: &mut TextBuffer,
@@ -58,6 +63,11 @@ pub fn push_reply(
             let mut digits = itoa::Buffer::new();
             out.append_value(words, digits.format(value).as_bytes())
         }
+        (Reply::Begun(number), Echo::Begin(words)) => {
+            let mut digits = itoa::Buffer::new();
+            out.append_begun(words, digits.format(number.0).as_bytes())
+        }
+        (Reply::Committed, Echo::Commit) => out.append_committed(subject.txn.as_bytes()),
         _ => push_other_reply(out, names, subject, reply),
     }
 }

@@ -249,6 +249,53 @@ impl Script {
         outcome_or_fault(appended, LineOutcome::of_reply(reply))
     }
 
+    /// Executes a begin or a commit, like `ask`. The words of the reply are copied from the line.
+    #[inline(always)]
+    fn ask_update(
+        &mut self,
+        subject: ReplyNames<'_>,
+        echo: Echo<'_>,
+        event: Event,
+        out: &mut TextBuffer,
+    ) -> Result<LineOutcome, RunFault>
+        requires begin { IsBegin event → position_of self.old.transactions subject.txn.now ≡ None }
+        requires echo { IsEcho echo (named_by subject) }
+        ensures { Executes (ask self.old (named_by subject.entry) event) self.new out.old out.new result }
+    {
+        self.stage.ensure_started(self.alloc)?;
+        let reply = self.stage.step(event)?;
+        if let Reply::Begun(_) = reply {
+            if self.transactions.bind(subject.txn).is_err() {
+                return Err(RunFault::NoMemory);
+            }
+        }
+        let appended = push_reply(out, &self.transactions, subject, echo, reply);
+        outcome_or_fault(appended, LineOutcome::of_reply(reply))
+    }
+
+    /// Begins an update, given the first two words of its line. Its name must not be bound already.
+    #[inline(never)]
+    fn begin_update(
+        &mut self,
+        words: &[u8],
+        name: &str,
+        limit: u64,
+        out: &mut TextBuffer,
+    ) -> Result<LineOutcome, RunFault>
+        requires { words.now ≡ codes "begin " ++ name.now }
+        ensures { Executes (execute self.old (command.begin_update name.now limit)) self.new out.old out.new result }
+    {
+        if self.transactions.number_of(name).is_some() {
+            return place_error(out, LineError::NameInUse);
+        }
+        self.ask_update(
+            alone(name),
+            Echo::Begin(words),
+            Event::BeginUpdate { limit },
+            out,
+        )
+    }
+
     /// Begins a transaction, whose name must not be bound already.
     #[inline(never)]
     fn begin(
@@ -355,7 +402,18 @@ impl Script {
 
     /// Commits a transaction.
     #[inline(never)]
-    fn commit(&mut self, txn: &str, out: &mut Vec<u8>) -> Result<LineOutcome, RunFault>
+    fn commit(&mut self, txn: &str, out: &mut TextBuffer) -> Result<LineOutcome, RunFault>
+        ensures { Executes (execute self.old (command.commit txn.now)) self.new out.old out.new result }
+    {
+        let event = Event::Commit {
+            txn: self.transaction(txn),
+        };
+        self.ask_update(alone(txn), Echo::Commit, event, out)
+    }
+
+    /// Commits a transaction, like `commit`, and formats the reply.
+    #[inline(never)]
+    fn commit_in_text(&mut self, txn: &str, out: &mut Vec<u8>) -> Result<LineOutcome, RunFault>
         ensures { Executes (execute self.old (command.commit txn.now)) self.new out.old.items out.new.items result }
     {
         let event = Event::Commit {
@@ -642,7 +700,7 @@ impl Script {
             }
             Line::Read { txn, item } => self.read_in_text(txn, item, out),
             Line::Write { txn, item, value } => self.write_in_text(txn, item, value, out),
-            Line::Commit { txn } => self.commit(txn, out),
+            Line::Commit { txn } => self.commit_in_text(txn, out),
             Line::Abort { txn } => self.abort(txn, out),
             Line::Audit { txn } => self.reply_audit(txn, out),
             Line::Totals => self.totals(out),
@@ -696,7 +754,8 @@ impl Script {
     /// Executes a line, appends its text to the output, and returns its outcome. An error leaves the output as it was.
     /// If the text is to be dropped, no query is audited, and the text appended is not specified.
     ///
-    /// Reads and writes, the most frequent commands, are inlined into the loop over the lines.
+    /// Reads and writes, the most frequent commands, are inlined into the loop over the lines. The replies to the commands
+    /// of an update are placed in the buffer.
     #[tactic(auto, using(crate::proofs::Unread::executed, crate::proofs::Unread::answered))]
     #[inline(always)]
     pub fn answer(
@@ -714,6 +773,10 @@ impl Script {
             Parsed::Command(Line::Write { txn, item, value }) => {
                 self.write(line, txn, item, value, out)
             }
+            Parsed::Command(Line::BeginUpdate { name, limit }) => {
+                self.begin_update(&line[..6 + name.len()], name, limit, out)
+            }
+            Parsed::Command(Line::Commit { txn }) => self.commit(txn, out),
             parsed => self.answer_any(line, parsed, audience, out),
         }
     }
@@ -767,6 +830,20 @@ fn outcome_or_fault(
         Ok(()) => Ok(outcome),
         Err(_) => Err(RunFault::NoMemory),
     }
+}
+
+/// Appends the line of an error, like `reply_error`.
+#[cold]
+#[inline(never)]
+fn place_error(out: &mut TextBuffer, error: LineError) -> Result<LineOutcome, RunFault>
+    ensures ok { OnOk result (out.new ≡ out.old ++ error_line error) }
+    ensures err { OnErr result (out.new ≡ out.old) }
+    ensures faults { IfErr result (λ e. e ≡ RunFault.NoMemory) }
+{
+    let mut text = out.take_text();
+    let replied = reply_error(&mut text, error);
+    out.put_text(text);
+    replied
 }
 
 /// Appends the line of an error, and returns the error as the outcome.

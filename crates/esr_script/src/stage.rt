@@ -1,5 +1,5 @@
-//! The state of a script: either items are still being declared, or the machine runs. The first line that is not an item
-//! makes the machine, and no item can be declared after it.
+//! The state of a script: either items are still being declared, or the machine runs. The first command other than `item`
+//! creates the machine, and no item can be declared after it.
 
 ghost use Rattle.esr_board.specs.declared.board.TheConstants.{MAX_SEATS};
 ghost use Rattle.esr_base.specs.declared.limits.TheConstants.{MAX_ENTRIES};

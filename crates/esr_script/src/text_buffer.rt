@@ -1,10 +1,10 @@
 //! The text that the sink has not yet taken, in a buffer that is longer than the text.
 //!
-//! The reply to a read or a write is placed over the bytes after the text, in blocks of fixed sizes: a few instructions,
-//! whereas appending it to a vector takes two calls, of which one copies a number of bytes that only it knows. Any other
-//! text is appended to the vector itself, which `take_text` cuts to the text.
+//! The reply to a read, a write, a begin or a commit is placed over the bytes after the text, in blocks of fixed sizes:
+//! a few instructions, whereas appending it to a vector takes two calls, of which one copies a number of bytes that only
+//! it knows. Any other text is appended to the vector itself, which `take_text` cuts to the text.
 
-ghost use Rattle.std.specs.Prelude.{◌≡◌, ℕ, List, [], ◌+◌, ◌∷◌, ◌++◌, ◌<◌, ◌≤◌, IfOk, OnOk, OnErr, length, take, slice_set};
+ghost use Rattle.std.specs.Prelude.{◌≡◌, ℕ, List, [], ◌+◌, ◌∷◌, ◌++◌, ◌<◌, ◌≤◌, IfOk, OnOk, OnErr, length, take, slice_set, codes};
 ghost use Rattle.esr_script.specs.Placed.{Placed};
 
 use std::alloc::{AllocError, Global};
@@ -108,6 +108,46 @@ fn place_wrote(buffer: &mut [u8], at: usize, line: &[u8]) -> usize
     place_byte(buffer, end, b'\n')
 }
 
+/// Places a blank, the last word of a reply, and the end of its line. Returns the index after it.
+#[inline(always)]
+fn place_last(buffer: &mut [u8], at: usize, word: &[u8]) -> usize
+    requires { at + length word.now + 2 ≤ length buffer.old }
+    ensures placed { Placed buffer.old buffer.new at (32 ∷ (word.now ++ 10 ∷ [])) result }
+    ensures end { result ≡ at + (length word.now + 2) }
+    ensures len { length buffer.new ≡ length buffer.old }
+{
+    let start = place_byte(buffer, at, b' ');
+    let end = place(buffer, start, word);
+    place_byte(buffer, end, b'\n')
+}
+
+/// Places the reply to a begin, given the first two words of its line and the number of the transaction. Returns the
+/// index after it.
+#[inline(always)]
+fn place_begun(buffer: &mut [u8], at: usize, words: &[u8], number: &[u8]) -> usize
+    requires long { 3 < length words.now }
+    requires fits { at + length words.now + length number.now + 2 ≤ length buffer.old }
+    ensures placed { Placed buffer.old buffer.new at (slice_set words.now 3 117 ++ (32 ∷ (number.now ++ 10 ∷ []))) result }
+    ensures end { result ≡ at + (length words.now + length number.now + 2) }
+    ensures len { length buffer.new ≡ length buffer.old }
+{
+    let after = place(buffer, at, words);
+    buffer[at + 3] = b'u';
+    place_last(buffer, after, number)
+}
+
+/// Places the reply to a commit, given its transaction. Returns the index after it.
+#[inline(always)]
+fn place_committed(buffer: &mut [u8], at: usize, txn: &[u8]) -> usize
+    requires { at + length txn.now + 11 ≤ length buffer.old }
+    ensures placed { Placed buffer.old buffer.new at (codes "committed" ++ (32 ∷ (txn.now ++ 10 ∷ []))) result }
+    ensures end { result ≡ at + (length txn.now + 11) }
+    ensures len { length buffer.new ≡ length buffer.old }
+{
+    let after = place(buffer, at, b"committed".as_slice());
+    place_last(buffer, after, txn)
+}
+
 /// Places the reply to a read, given the words of its line and the value. Returns the index after it.
 #[inline(always)]
 fn place_value(buffer: &mut [u8], at: usize, words: &[u8], value: &[u8]) -> usize
@@ -117,9 +157,7 @@ fn place_value(buffer: &mut [u8], at: usize, words: &[u8], value: &[u8]) -> usiz
     ensures len { length buffer.new ≡ length buffer.old }
 {
     let after = place(buffer, at, words);
-    let start = place_byte(buffer, after, b' ');
-    let end = place(buffer, start, value);
-    place_byte(buffer, end, b'\n')
+    place_last(buffer, after, value)
 }
 
 /// Makes the buffer longer.
@@ -220,6 +258,32 @@ impl TextBuffer {
     {
         make_room(&mut self.buffer, self.len, line.len() + 1)?;
         self.len = place_wrote(&mut self.buffer, self.len, line);
+        Ok(())
+    }
+
+    /// Appends the reply to a begin, given the first two words of its line and the number of the transaction.
+    #[tactic(auto, using(crate::proofs::Places::appended))]
+    #[inline(always)]
+    pub fn append_begun(&mut self, words: &[u8], number: &[u8]) -> Result<(), AllocError>
+        requires long { 3 < length words.now }
+        requires short { length number.now ≤ 40 }
+        ensures ok { OnOk result (self.new ≡ self.old ++ (slice_set words.now 3 117 ++ (32 ∷ (number.now ++ 10 ∷ [])))) }
+        ensures err { OnErr result (self.new ≡ self.old) }
+    {
+        make_room(&mut self.buffer, self.len, words.len() + number.len() + 2)?;
+        self.len = place_begun(&mut self.buffer, self.len, words, number);
+        Ok(())
+    }
+
+    /// Appends the reply to a commit, given its transaction.
+    #[tactic(auto, using(crate::proofs::Places::appended))]
+    #[inline(always)]
+    pub fn append_committed(&mut self, txn: &[u8]) -> Result<(), AllocError>
+        ensures ok { OnOk result (self.new ≡ self.old ++ (codes "committed" ++ (32 ∷ (txn.now ++ 10 ∷ [])))) }
+        ensures err { OnErr result (self.new ≡ self.old) }
+    {
+        make_room(&mut self.buffer, self.len, txn.len() + 11)?;
+        self.len = place_committed(&mut self.buffer, self.len, txn);
         Ok(())
     }
 

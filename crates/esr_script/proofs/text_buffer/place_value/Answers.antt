@@ -3,10 +3,10 @@ use Rattle.esr_script.proofs.Places.{placed_then}
 use Rattle.esr_script.proofs.text_buffer.place_value.Goals as goal
 
 pub returns-clause-placed : goal.returns-clause-placed
-returns-clause-placed c = placed_then c.place-after.ensures (placed_then c.place_byte-start.ensures (placed_then c.place-end.ensures c.place_byte.ensures))
+returns-clause-placed c = placed_then c.place-after.ensures c.place_last.ensures.placed
 
 pub returns-clause-end : goal.returns-clause-end
-returns-clause-end c = omega (arith, c.place-after.ensures.moved, c.place_byte-start.ensures.moved, c.place-end.ensures.moved, c.place_byte.ensures.moved)
+returns-clause-end c = omega (arith, c.place-after.ensures.moved, c.place_last.ensures.end)
 
 pub returns-clause-len : goal.returns-clause-len
-returns-clause-len c = omega (arith, c.place-after.ensures.len, c.place_byte-start.ensures.len, c.place-end.ensures.len, c.place_byte.ensures.len)
+returns-clause-len c = omega (arith, c.place-after.ensures.len, c.place_last.ensures.len)

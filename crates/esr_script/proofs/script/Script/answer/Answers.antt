@@ -6,7 +6,7 @@ use Rattle.esr_grammar.specs.declared.parse.Line.{Line}
 use Rattle.esr_grammar.specs.Command as command
 use Rattle.esr_grammar.specs.Command.{IsSyntaxOf, view}
 use Rattle.esr_script.specs.Text.{Executes, execute}
-use Rattle.esr_script.proofs.Echoes.{is_read_long, read_words}
+use Rattle.esr_script.proofs.Echoes.{is_read_long, read_words, is_begin_update_long, begin_words}
 use Rattle.esr_script.proofs.Unread.{executed, answered}
 use Rattle.esr_script.proofs.script.Script.answer.Goals as goal
 
@@ -55,3 +55,26 @@ returns-in-Command-Write-clause-text c = λ somebody.
     answered c.args.self.now c.write.new.self c.args.line.now write.ensures.read.0 (command.write write.txn.now write.item.now write.value)
     (write.ensures.read.1 ∙ ap (λ (l : Line). Some (view l)) write.field-0-is) c.write.result c.args.out.now c.write.new.out
     (subst (λ (v : ℤ). Executes (execute c.args.self.now (command.write write.txn.now write.item.now v)) c.write.new.self c.args.out.now c.write.new.out c.write.result) same c.write.ensures)
+
+pub slice_bounds-begin_update-end : goal.slice_bounds-begin_update-end
+slice_bounds-begin_update-end c =
+    let begin = c.in-Command-BeginUpdate in
+    let long = is_begin_update_long c.args.line.now begin.name.now begin.limit ((begin.ensures.command (command.begin_update begin.name.now begin.limit)).0 (ap (λ (l : Line). Some (view l)) begin.field-0-is)) in
+    search rules
+
+pub begin_update-requires : goal.begin_update-requires
+begin_update-requires c =
+    let begin = c.in-Command-BeginUpdate in
+    begin_words c.args.line.now begin.name.now begin.limit ((begin.ensures.command (command.begin_update begin.name.now begin.limit)).0 (ap (λ (l : Line). Some (view l)) begin.field-0-is))
+
+pub returns-in-Command-BeginUpdate-clause-state : goal.returns-in-Command-BeginUpdate-clause-state
+returns-in-Command-BeginUpdate-clause-state c =
+    let begin = c.in-Command-BeginUpdate in
+    executed c.args.self.now c.begin_update.new.self c.args.line.now begin.ensures.read.0 (command.begin_update begin.name.now begin.limit)
+    (begin.ensures.read.1 ∙ ap (λ (l : Line). Some (view l)) begin.field-0-is) c.begin_update.result c.args.out.now c.begin_update.new.out c.begin_update.ensures
+
+pub returns-in-Command-Commit-clause-state : goal.returns-in-Command-Commit-clause-state
+returns-in-Command-Commit-clause-state c =
+    let commit = c.in-Command-Commit in
+    executed c.args.self.now c.commit.new.self c.args.line.now commit.ensures.read.0 (command.commit commit.txn.now)
+    (commit.ensures.read.1 ∙ ap (λ (l : Line). Some (view l)) commit.field-0-is) c.commit.result c.args.out.now c.commit.new.out c.commit.ensures

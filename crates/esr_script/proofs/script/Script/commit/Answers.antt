@@ -7,4 +7,4 @@ use Rattle.esr_script.proofs.script.Script.commit.Goals as goal
 pub returns : goal.returns
 returns c =
     let names : Named = record { txn = c.args.txn.now; item = []; value = pos 0 } in
-    audited c.ask.result c.args.self.now c.ask.new.self _ names _ _ c.args.out.now.items c.ask.new.out.items c.alone.ensures (ap (λ t. Commit t) c.transaction.ensures) c.ask.ensures
+    audited c.ask_update.result c.args.self.now c.ask_update.new.self _ names _ _ c.args.out.now c.ask_update.new.out c.alone.ensures (ap (λ t. Commit t) c.transaction.ensures) c.ask_update.ensures

@@ -1,0 +1,12 @@
+use Rattle.std.proofs.Common.{ap, arith, length}
+use Rattle.esr_script.proofs.Places.{placed_then}
+use Rattle.esr_script.proofs.text_buffer.place_committed.Goals as goal
+
+pub returns-clause-placed : goal.returns-clause-placed
+returns-clause-placed c = rw c.as_slice.ensures at (placed_then c.place-after.ensures c.place_last.ensures.placed)
+
+pub returns-clause-end : goal.returns-clause-end
+returns-clause-end c = omega (arith, ap length c.as_slice.ensures, c.place-after.ensures.moved, c.place_last.ensures.end)
+
+pub returns-clause-len : goal.returns-clause-len
+returns-clause-len c = omega (arith, c.place-after.ensures.len, c.place_last.ensures.len)
