@@ -78,7 +78,7 @@ fn push_there(out: &mut String, subject: &Subject<'_>, there: There) -> Result<(
     if weight < 2 {
         return Ok(());
     }
-    out.push_str(", because differences are weighted by ")?;
+    out.push_str(", because a difference counts ")?;
     push_number(out, weight)?;
     out.push_str(" times")
 }

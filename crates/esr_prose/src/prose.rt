@@ -89,7 +89,7 @@ fn push_unfinished(out: &mut String, subject: &Subject<'_>) -> Result<(), AllocE
     out.push_str(" that it has been charged.")
 }
 
-/// The moment to which the query belongs, or why there is none.
+/// Appends whether what the query read was a consistent state, or else the nearest one, or why there is none.
 fn push_answer(
     alloc: Global,
     out: &mut String,
@@ -109,14 +109,16 @@ fn push_answer(
     if finding.distance > 0 {
         out.push(' ')?;
         push_nearest_moment(alloc, out, &audited, trace)?;
+    }
+    if !finding.problem.must().is_empty() {
+        out.push(' ')?;
+        push_strict(alloc, out, &audited, trace)?;
+    }
+    if finding.distance > 0 {
         out.push(' ')?;
         push_certificate(out, subject.name(subject.query))?;
     }
-    if finding.problem.must().is_empty() {
-        return Ok(());
-    }
-    out.push(' ')?;
-    push_strict(alloc, out, &audited, trace)
+    Ok(())
 }
 
 /// Appends the begin of the query.

@@ -110,6 +110,8 @@ fn outcomes_of_values_and_queries_are_described(rt: HostRuntime) {
     let report = [
         "What report read was never a consistent state with all updates that committed\nbefore report began. The nearest such state, ",
         "had committed before it began, so states without it are excluded.",
+        "nearer: the certificate of esr certify report proves it.\n\n",
+        "  - gold 5: the values read are off by 6, because a difference counts 3 times\n",
         "report is a strict query that began in line 8 and committed in line 21.",
         "  - till 90, in line 13, which evening had written but not committed; it aborted\n    later, in line 19\n",
         "; a difference of gold counts 3 times",
