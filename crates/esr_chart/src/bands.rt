@@ -1,5 +1,5 @@
 //! The bands of a timeline: lanes, charges, heads, marks and the axis, each over the ones before. The columns are placed so
-//! that no arrow crosses a label. It may pass a head that is above a lane; it has a gap there.
+//! that no arrow crosses a label. An arrow that passes a head above a lane has a gap there.
 
 use crate::elements::{
     close_text, open_centred, open_rect, open_text, push_continued, push_text, push_vertical,

@@ -1,9 +1,9 @@
-//! The parts of a renewal that carries the active transactions over: how they began, their settled amounts, the entries
+//! The parts of a renewal that carries the active transactions over: how they began, their earlier charges, the entries
 //! with which the new history begins, and the replay of these entries.
 //!
 //! A pass over the transaction numbers finds the active transactions, and the links of the log find their entries, which
 //! are then sorted. All else works on these lists, which are short if few entries are of active transactions. Rejected:
-//! a pass over the log, which took 11 ns for each entry, while all threads of a bank wait.
+//! a pass over the log, which takes 11 ns per entry while all threads of a bank wait.
 
 ghost use Rattle.std.specs.Prelude.{◌≡◌, ◌+◌, ◌-◌, ◌<◌, ◌≤◌, ◌&&◌, ◌++◌, ◌==◌, Some, true, count_by, nat_lt, if◌then◌else◌, length, map, filter, filter_map, reverse, slice_get, IfOk, IfSome, OnOk};
 ghost use Rattle.std.specs.List.Sorted.{IsNonDecreasingBy};

@@ -1,7 +1,7 @@
 //! An engine to embed in a program: a machine with item weights, and the operations that a program needs besides events.
-//! These are audits, reads that take the lock of a write (`for_update`), the state of a transaction (its [`Account`]: what it
-//! was charged, and its limit), counts of entries and transactions ([`EngineCounts`]), and the replacement of a full history
-//! by an empty one (`renewal`), which can carry the active transactions over (`carrying`).
+//! These are audits, reads under a write lock (`for_update`), the charges and the limit of a transaction ([`Account`]), and
+//! counts of entries and transactions ([`EngineCounts`]). A `renewal` replaces a full history by an empty one, and can carry
+//! the active transactions over (`carrying`).
 //!
 //! A history has at most 1,000,000 entries. If all were used while a transaction is active, the transaction could never
 //! end, because its commit or abort needs an entry too. An engine therefore reserves one entry for the end of each active

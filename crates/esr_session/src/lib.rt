@@ -1,4 +1,4 @@
-//! One machine protected by a lock, and the sessions through which threads call it. Each call that receives a reply
+//! One engine protected by a lock, and the sessions through which threads call it. Each call that receives a reply
 //! appends one entry to a common history and leaves a receipt: the place, the event and the reply. Closing the engine
 //! compares all receipts with the history.
 //!

@@ -1,7 +1,7 @@
-//! Sessions, each of which one thread at a time calls an engine through.
+//! Sessions, through each of which one thread at a time calls an engine.
 //!
-//! A session knows nothing of its engine between two calls, since others call it too; so its contract speaks of the
-//! receipt that a call leaves, and `step_on`, under the lock, says the rest.
+//! Between two calls other threads may call the engine. So the contract of a session is about the receipt that a call leaves;
+//! that of `step_on`, under the lock, is about the engine.
 ghost use Rattle.std.specs.Prelude.{◌≡◌, ◌+◌, ◌<◌, ◌≤◌, ◌⊎◌, List, [], ◌∷◌, ◌++◌, true, length, All, None, IfOk, OnErr, IfErr};
 ghost use Rattle.esr_base.specs.declared.limits.TheConstants.{MAX_ENTRIES};
 ghost use Rattle.esr_session.specs.Receipts.{IsReceipt, AreBlocked, EndsBlocked, BlockedOnlyLast, is_blocked};
