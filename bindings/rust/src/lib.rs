@@ -1,6 +1,6 @@
-//! `esr` is an epsilon-serializable transaction engine: updates over integers in memory, and reports that do not block
-//! them and are off by no more than the limit that they declare. The engine is proved; this crate is plain Rust over its C
-//! interface.
+//! `esr` is an epsilon-serializable transaction engine: updates over integers in memory, and reports that are off by at most
+//! the limit that they declare and block updates only to keep limits. The engine is proved; this crate is plain Rust over its
+//! C interface.
 //!
 //! [`Bank`] is shared by threads, names its items, retries, and renews itself:
 //!
@@ -22,9 +22,9 @@
 //! For a total of the committed values take [`Bank::snapshot`], which is exact and takes microseconds. A report is for
 //! reading work in progress, for a bound that is known beforehand, and for a certificate of the error afterwards.
 //!
-//! Values are in memory. [`BankBuilder::store`] keeps the committed ones in a database, which nothing of the proofs covers.
+//! Values are in memory. [`BankBuilder::store`] keeps the committed ones in a database; no proof covers this.
 //!
-//! [`Engine`] executes one event at a time for one thread:
+//! [`Engine`] executes one event at a time, without a lock:
 //!
 //! ```
 //! use esr::Engine;
