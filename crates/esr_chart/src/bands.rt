@@ -23,7 +23,7 @@ use std::alloc::AllocError;
 fn push_limit_words(out: &mut String, limit: u64, y: u32) -> Result<(), AllocError> {
     open_text(out, "lb gy ha", MARGIN, y)?;
     if limit >= MAX_LIMIT {
-        out.push_str("no limit")?;
+        out.push_str("largest limit")?;
     } else {
         out.push_str("limit ")?;
         push_number(out, limit)?;

@@ -162,7 +162,7 @@ pub fn width_of(letters: usize) -> u32 {
 /// Returns the letters of the limit of a transaction.
 fn limit_letters(lane: &Lane<'_>) -> usize {
     if lane.limit >= MAX_LIMIT {
-        8
+        13
     } else {
         number_letters(lane.limit).saturating_add(6)
     }

@@ -164,7 +164,7 @@ fn result_cell(
     Ok(result)
 }
 
-/// Returns why an update is in no state.
+/// Returns why an update cannot be in the nearest state.
 fn absence_words(audited: &Audited<'_>, update: TxnId) -> &'static str {
     match outcome_of(audited.history, update) {
         TxnOutcome::Aborted => "aborted",
@@ -201,7 +201,7 @@ fn row_of(alloc: Global, audited: &Audited<'_>, reason: &Reason) -> Result<Row, 
     cells.push(reads_cell(alloc, audited, &reason.reads, &reason.overwritten)?)?;
     match &reason.alternative {
         Some(alternative) => push_alternative(alloc, &mut cells, audited, alternative)?,
-        None => cells.push(cell(alloc, "in no state", None)?)?,
+        None => cells.push(cell(alloc, "cannot be in it", None)?)?,
     }
     Ok(Row { cells })
 }
@@ -303,9 +303,9 @@ fn push_table_words(
         " reads in all are off",
     )?;
     out.push_str(
-        ", because of these updates, that of the farthest read first. If an update changes sides of the line, its reads are exact then. But others must move with it, more reads are nearer or farther then, and ",
+        ", because of these updates, that of the farthest read first. If an update changed sides of the line, the reads in its row would be exact. But others would have to move with it, other reads would be nearer or farther, and ",
     )?;
-    write!(out, "{query} is off by as much or more.")?;
+    write!(out, "{query} would be off by as much or more.")?;
     if reasons
         .reasons
         .iter()

@@ -105,7 +105,7 @@ fn push_intro(
         out.push_str(" of its limit of ")?;
         push_number(out, limit)?;
     } else {
-        out.push_str(", without a limit")?;
+        out.push_str(" of the largest limit")?;
     }
     out.push_str(if has_charges { ":" } else { "." })
 }

@@ -66,7 +66,7 @@ fn words_of(key: Key) -> &'static str {
         Key::Writes => "down to what it wrote",
         Key::Off => "read that is off",
         Key::AnotherFits => "one is off, another fits",
-        Key::TransientRead => "read, then replaced or undone",
+        Key::TransientRead => "read before commit",
         Key::Before => "update before the line",
         Key::After => "update after the line",
         Key::Must => "has to be before the line",

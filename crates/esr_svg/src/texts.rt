@@ -269,7 +269,7 @@ fn push_earlier(
     let mut words = String::new(alloc);
     write!(
         words,
-        "The {updates} before the line must be there: without {one}, {query} would be off by more."
+        "The {updates} before the line must be there: if {one} were missing, {query} would be off by more."
     )?;
     sentences.push(words)?;
     Ok(())

@@ -256,7 +256,7 @@ fn push_rest(out: &mut String, query: &str, rest: Rest) -> Result<(), AllocError
     out.push('.')
 }
 
-/// Returns the sentence on the charges that are drawn if there is no space for all.
+/// Returns the sentence on the charges that are drawn if there is space for some of them.
 fn order_sentence(order: Order) -> &'static str {
     match order {
         Order::Explaining => {
@@ -414,7 +414,7 @@ fn push_omissions(
     bands: &[Band<'_>],
 ) -> Result<(), AllocError> {
     push_rest(out, scene.query.unwrap_or(""), scene.rest)?;
-    if scene.rest.charges > 0 {
+    if scene.rest.charges > 0 && !scene.arrows.is_empty() {
         out.push_str(order_sentence(scene.order))?;
     }
     if bands.iter().any(has_unlabelled) {

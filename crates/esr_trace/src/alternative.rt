@@ -443,7 +443,7 @@ impl Alternative {
             }
             Subject::Before(count) => (
                 count,
-                " updates before the line are in the nearest state: without all of them, ",
+                " updates before the line are in the nearest state: without any of them, ",
             ),
             Subject::After(count) => (
                 count,

@@ -93,7 +93,7 @@ impl Reason {
     }
 }
 
-/// Appends a sentence on why an update is in no state.
+/// Appends a sentence on why an update cannot be in the nearest state.
 fn push_absence(
     out: &mut String,
     audited: &Audited<'_>,
@@ -103,11 +103,14 @@ fn push_absence(
     let name = name_of_transaction(audited.transactions, update);
     write!(out, "Why {name} is not in the nearest state: it ")?;
     match outcome_of(audited.history, update) {
-        TxnOutcome::Aborted => out.push_str("aborted")?,
-        TxnOutcome::Active => out.push_str("has not ended")?,
-        TxnOutcome::Committed => write!(out, "committed after {query}")?,
+        TxnOutcome::Aborted => out.push_str("aborted.")?,
+        TxnOutcome::Active => out.push_str("has not ended.")?,
+        TxnOutcome::Committed => write!(
+            out,
+            "committed after {query}, and only updates that committed before {query} can be in it."
+        )?,
     }
-    out.push_str(", so it is in no state.")
+    Ok(())
 }
 
 /// The reasons for the reads of a query that are off.

@@ -44,8 +44,8 @@ fn must_follow(audited: &Audited<'_>) -> bool {
     !audited.finding.problem.must().is_empty()
 }
 
-/// Appends whether the values read ever existed at one moment. For a strict query, they may have existed before the
-/// updates that it had to follow.
+/// Appends whether the values read ever existed at one moment up to the commit of the query. For a strict query, they may
+/// have existed before the updates that it had to follow.
 pub fn push_verdict(
     out: &mut String,
     audited: &Audited<'_>,
@@ -60,10 +60,10 @@ pub fn push_verdict(
         if must_follow(audited) {
             return write!(
                 out,
-                " read was never a consistent state with all updates that committed before {query} began."
+                " read was never, up to its commit, a consistent state with all updates that committed before {query} began."
             );
         }
-        return out.push_str(" read was never a consistent state.");
+        return out.push_str(" read was never a consistent state up to its commit.");
     }
     out.push_str(" read was a consistent state, ")?;
     push_moment(out, audited, trace)?;
@@ -151,7 +151,7 @@ fn push_charge_sentence(
         out.push_str(" of its limit of ")?;
         push_number(out, limit)?;
     } else {
-        out.push_str(", without a limit")?;
+        out.push_str(" of the largest limit")?;
     }
     push_charges(out, audited, &trace.sums_by_update(alloc)?)?;
     if audited.finding.import == 0 {
@@ -316,11 +316,11 @@ fn push_reason(
     match (reason, is_one) {
         (Absence::CommittedLater, true) => write!(
             out,
-            ": it committed after {query}, so every serial placement has it after {query}"
+            ": it committed after {query}, and a placement has only updates that committed before {query}"
         ),
         (Absence::CommittedLater, false) => write!(
             out,
-            ": they committed after {query}, so every serial placement has them after {query}"
+            ": they committed after {query}, and a placement has only updates that committed before {query}"
         ),
         (Absence::Aborted, true) => out.push_str(": it aborted, so no serial placement has it"),
         (Absence::Aborted, false) => {

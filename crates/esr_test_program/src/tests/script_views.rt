@@ -17,9 +17,9 @@ use std::str::from_utf8;
 
 /// The whole prose about the report of the bank.
 static BANK_TOLD: &str = "\
-What report read was never a consistent state. The nearest state, before all
-updates, differs by 100 in one read. No allowed set of updates is nearer: the
-certificate of esr certify report proves it.
+What report read was never a consistent state up to its commit. The nearest
+state, before all updates, differs by 100 in one read. No allowed set of updates
+is nearer: the certificate of esr certify report proves it.
 
 report is a query that began in line 3 and committed in line 10.
 
@@ -108,9 +108,9 @@ fn a_report_of_the_bank_is_described(rt: HostRuntime) {
 fn outcomes_of_values_and_queries_are_described(rt: HostRuntime) {
     let alloc = rt.alloc();
     let report = [
-        "What report read was never a consistent state with all updates that committed\nbefore report began. The nearest such state, ",
-        "had committed before it began, so states without it are excluded.",
-        "nearer: the certificate of esr certify report proves it.\n\n",
+        "What report read was never, up to its commit, a consistent state with all\nupdates that committed before report began. The nearest such state, ",
+        "had committed before it began, so states without it\nare excluded.",
+        "allowed set of updates is nearer: the certificate of esr certify report proves\nit.\n\n",
         "  - gold 5: the values read are off by 6, because a difference counts 3 times\n",
         "report is a strict query that began in line 8 and committed in line 21.",
         "  - till 90, in line 13, which evening had written but not committed; it aborted\n    later, in line 19\n",
