@@ -120,7 +120,7 @@ fn little_is_drawn(rt: HostRuntime) {
     let texts = [
         "q: off by 6, charged 6</text>",
         ">weight 3</text>",
-        "read 7</text><text class='m r' x='20' y='300'>and 9</text>",
+        "read 7</text><text class='m r' x='20' y='320'>and 9</text>",
         ">off by 2 x 3 = 6</text>",
     ];
     has(&rt, rt.alloc(), TWICE, "q", &texts);
