@@ -30,8 +30,7 @@ audit_error_of NotACommittedQuery = refusals.NotACommittedQuery
 audit_error_of NoMemory = refusals.NoMemory
 
 -- q is a query that has committed. The distance is the least over all placements of q; `before` is, in commit order, the
--- smallest set of updates before the position in a placement of that distance; and the distance is at most the import
--- charged to q.
+-- smallest closed set of least cost, which equals the distance; and the distance is at most the import charged to q.
 pub record IsAnswer (d : DistanceFunction) (h : Schedule) (q distance import : ℕ) (before : List ℕ) : Type 0 where
   pub committed : is_committed_query h q ≡ true
   pub least : IsLeastDistance d h q distance

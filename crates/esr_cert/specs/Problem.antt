@@ -11,8 +11,8 @@ pub record Chain : Type 0 where
   pub writers : List ℕ
   pub costs : List ℕ
 
--- the numbers of the updates, the pairs of which the first precedes the second, the items, and the updates that each
--- set must contain
+-- the updates' transaction numbers and, as positions among these, the pairs of which the first precedes the second, the
+-- chains, and the updates that each set must contain
 pub record Problem : Type 0 where
   pub updates : List ℕ
   pub before : List (ℕ × ℕ)

@@ -1,8 +1,8 @@
 //! Problems, certificates of their least cost, and the check of a certificate.
 //!
-//! The network of a problem has one node for each update, a source and a sink. Its cuts are the closed sets, and the
-//! capacity of a cut is the cost of its set. By weak duality the value of a flow is at most the cost of any closed set.
-//! A certificate is a closed set and a flow of equal worth, so it proves that no closed set costs less.
+//! The network of a problem has one node for each update, a source and a sink. Its cuts of finite capacity are the closed
+//! sets, and the capacity of such a cut is the cost of its set. By weak duality the value of a flow is at most the cost of
+//! any closed set. A certificate is a closed set and a flow of equal worth, so it proves that no closed set costs less.
 //!
 //! A reviewer has to trust only this crate and `esr_base`, and `esr_bundle` to check a bundle: the origin of a
 //! certificate does not matter, and this crate knows neither histories nor solvers. Nodes, arcs, flows and cuts are

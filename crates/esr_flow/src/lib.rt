@@ -3,7 +3,7 @@
 //! `solve` computes shortest augmenting paths from the zero flow (Edmonds and Karp 1972), in phases (Dinic 1970), and
 //! returns the exact number of augmentations. Audits call `find_certificate` instead. It first proposes a flow by a heuristic
 //! (`draft`), and a proved check tests whether the proposal is a flow. If it is, the same phases start from the proposal,
-//! otherwise from the zero flow. So the heuristic needs no proof: the result depends only on the check.
+//! otherwise from the zero flow. So the heuristic needs no proof: the set and the worth do not depend on it.
 #![tactic(auto)]
 
 mod entry;

@@ -1,7 +1,7 @@
 //! The accounts together, their quotes and their charges.
 //!
-//! The totals are one number: imports and exports are equal by the type, so one sum is both. Sums that could pass 64
-//! bits are taken in 128.
+//! One number is both totals, because the type makes imports and exports equal. Sums that could overflow 64 bits use
+//! 128 bits.
 
 ghost use Rattle.std.specs.Prelude.{◌≡◌, ◌+◌, ◌<◌, ◌≤◌, ◌^◌, [], true, false, All, OnOk, OnErr, find, length};
 ghost use Rattle.std.specs.List.{insert};

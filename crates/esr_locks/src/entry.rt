@@ -1,7 +1,7 @@
 //! The locks on one item: its writer, the updates that have read it, and the queries that have, with their counts.
 //!
 //! Queries are counted since a write is charged once for each read. Readers and queries ascend by number, so the
-//! smallest update in the way is the writer or the first reader but the asker.
+//! lowest-numbered blocker is the writer or the first reader except the requester.
 
 ghost use Rattle.std.specs.Prelude.{◌≡◌, ℕ, ◌<◌, ◌≤◌, ◌==◌, Bool, false, ◌||◌, ◌&&◌, map, not, All, OnOk, OnErr, unwrap_or, None, if◌then◌else◌, option_map, min, ◌-◌, length};
 ghost use Rattle.esr_base.specs.declared.limits.TheConstants.{MAX_READS};

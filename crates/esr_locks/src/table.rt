@@ -23,7 +23,7 @@ use esr_items::ItemId;
 use std::alloc::{AllocError, Global};
 use std::marker::Model;
 
-/// The lock table of strict two-phase locking: a transaction holds its locks until they are
+/// The lock table of rigorous two-phase locking: a transaction holds its locks until they are
 /// released together (Bernstein, Hadzilacos and Goodman, 1987). Updates take read and write locks,
 /// queries read locks.
 ///

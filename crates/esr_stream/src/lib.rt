@@ -6,11 +6,11 @@
 //! (`pass`) caps each amount at the cost of its version. Every closed set contains the *mandatory* updates: of a strict query,
 //! the updates that committed before it began; of any other query, none.
 //!
-//! A pass applies the updates in commit order and keeps the sum of the capped amounts of the current versions. A read of an
-//! update may raise the amount of the version, or take a loan from it, which counts against the sum until the next writer
-//! repays it. Let S be the sum directly after the mandatory updates. If a later update decreases it, the pass fails. Otherwise
-//! every closed set costs at least S (`esr_bound`). The pass also marks updates that every closed set of cost S contains, and
-//! `close` adds their predecessors. If `close` adds an update, another pass follows. It keeps all marks, and it need not visit
+//! A pass applies the updates in commit order and keeps the sum of the capped amounts of the current versions. An update that
+//! reads a version may raise its amount, or subtract a *loan* from the sum, which the next writer adds back. Let S be the sum
+//! directly after the mandatory updates. If a later update decreases it, the pass fails. Otherwise every closed set costs at
+//! least S (`esr_bound`). The pass also marks updates that every closed set of cost S contains, and `close` adds their
+//! predecessors. If `close` adds an update, another pass follows. It keeps all marks, and it need not visit
 //! all updates again: if all updates before a position are marked, every closed set of cost S contains them, as if they were
 //! mandatory. So the pass starts from the states at that position, provided that their amounts sum to at least S. Nor need it
 //! visit all later updates: after many updates in a row without a mark it ends early, and a later pass, which has to have the same
