@@ -167,7 +167,7 @@ fn push_sums_by(
         push_sum(out, joint, name, sum.amount)?;
         joint = ", ";
     }
-    push_rest(out, sums.len())
+    push_rest(out, sums.len().saturating_sub(MAX_NAMES))
 }
 
 /// The sums by item and by update.

@@ -3,50 +3,57 @@
 use crate::source::{PlacedQuery, Source};
 use esr_history::TxnId;
 use esr_report::name_of_transaction;
-use esr_text::{first, push_number};
+use esr_text::first;
+use esr_wording::push_rest;
 use std::alloc::{AllocError, Global};
 
-/// The maximum number of names.
+/// The maximum number of names in a sentence.
 const MAX_NAMES: usize = 6;
 
-/// Where an update is that committed before the query.
-#[derive(Clone, Copy, PartialEq, Eq)]
-enum Side {
-    In,
-    NotIn,
-    /// Not in it, and its place has no effect on the items that the query read.
-    WithoutEffect,
+/// The updates that committed before a query, in the order of their commits.
+#[derive(Drop)]
+struct Sides {
+    /// Those in the nearest placement.
+    before: Vec<TxnId>,
+    /// Those not in it.
+    after: Vec<TxnId>,
+    /// Those not in it whose place has no effect on the items that the query read.
+    irrelevant: Vec<TxnId>,
 }
 
-/// Returns the updates that committed before the query, and that are on one side of the placement.
-fn updates_on(
-    alloc: Global,
-    source: Source<'_>,
-    placed: &PlacedQuery<'_>,
-    side: Side,
-) -> Result<Vec<TxnId>, AllocError> {
-    let relevant = placed.finding.problem.updates();
-    let mut next = 0usize;
-    let mut updates = Vec::new(alloc);
-    for txn in source.auditor.commits() {
-        if *txn == placed.finding.query {
-            break;
-        }
-        let is_relevant = relevant.get(next) == Some(txn);
-        if is_relevant {
-            next = next.saturating_add(1);
-        }
-        let is_query = source.history.facts(*txn).is_some_and(|facts| facts.query);
-        let is_there = match (placed.placement.has_before(*txn), is_relevant) {
-            (true, _) => side == Side::In,
-            (false, true) => side == Side::NotIn,
-            (false, false) => side == Side::WithoutEffect,
+impl Sides {
+    /// Returns the updates that committed before the query, by their side of its nearest placement.
+    fn of(
+        alloc: Global,
+        source: Source<'_>,
+        placed: &PlacedQuery<'_>,
+    ) -> Result<Sides, AllocError> {
+        let mut sides = Sides {
+            before: Vec::new(alloc),
+            after: Vec::new(alloc),
+            irrelevant: Vec::new(alloc),
         };
-        if !is_query && is_there {
-            updates.push(*txn)?;
+        let relevant = placed.finding.problem.updates();
+        let mut next = 0usize;
+        for txn in source.auditor.commits() {
+            if *txn == placed.finding.query {
+                break;
+            }
+            let is_relevant = relevant.get(next) == Some(txn);
+            if is_relevant {
+                next = next.saturating_add(1);
+            }
+            if source.history.facts(*txn).is_some_and(|facts| facts.query) {
+                continue;
+            }
+            match (placed.placement.has_before(*txn), is_relevant) {
+                (true, _) => sides.before.push(*txn)?,
+                (false, true) => sides.after.push(*txn)?,
+                (false, false) => sides.irrelevant.push(*txn)?,
+            }
         }
+        Ok(sides)
     }
-    Ok(updates)
 }
 
 /// Appends a sentence with the names of some updates, and the number of the others, or nothing if there are none.
@@ -67,12 +74,7 @@ fn push_sentence(
         out.push_str(name_of_transaction(source.transactions, *update))?;
         joint = ", ";
     }
-    let others = updates.len().saturating_sub(MAX_NAMES);
-    if others > 0 {
-        out.push_str(" and ")?;
-        push_number(out, others as u64)?;
-        out.push_str(" more")?;
-    }
+    push_rest(out, updates.len().saturating_sub(MAX_NAMES))?;
     out.push('.')
 }
 
@@ -84,18 +86,21 @@ pub fn sides_of(
     placed: &PlacedQuery<'_>,
 ) -> Result<String, AllocError> {
     let mut words = String::new(alloc);
-    let before = updates_on(alloc, source, placed, Side::In)?;
-    let after = updates_on(alloc, source, placed, Side::NotIn)?;
-    let idle = updates_on(alloc, source, placed, Side::WithoutEffect)?;
-    let count = after.len().saturating_add(idle.len());
-    if before.len() < 2 || count == 0 {
+    let sides = Sides::of(alloc, source, placed)?;
+    let not_before = sides.after.len().saturating_add(sides.irrelevant.len());
+    if sides.before.len() < 2 || not_before == 0 {
         return Ok(words);
     }
-    if before.len() <= count {
-        push_sentence(&mut words, source, "In it: ", &before)?;
+    if sides.before.len() <= not_before {
+        push_sentence(&mut words, source, "In it: ", &sides.before)?;
     } else {
-        push_sentence(&mut words, source, "Not in it: ", &after)?;
-        push_sentence(&mut words, source, "Without effect on these reads: ", &idle)?;
+        push_sentence(&mut words, source, "Not in it: ", &sides.after)?;
+        push_sentence(
+            &mut words,
+            source,
+            "Without effect on these reads: ",
+            &sides.irrelevant,
+        )?;
     }
     Ok(words)
 }

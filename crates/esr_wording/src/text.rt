@@ -37,12 +37,11 @@ fn joint(place: usize, count: usize) -> &'static str {
     }
 }
 
-/// Appends the number of items that are not listed by name.
-pub fn push_rest(out: &mut String, count: usize) -> Result<(), AllocError> {
-    let more = count.saturating_sub(MAX_NAMES);
-    if more > 0 {
+/// Appends how many are not listed by name, if there are any.
+pub fn push_rest(out: &mut String, rest: usize) -> Result<(), AllocError> {
+    if rest > 0 {
         out.push_str(" and ")?;
-        push_number(out, more as u64)?;
+        push_number(out, rest as u64)?;
         out.push_str(" more")?;
     }
     Ok(())
