@@ -99,18 +99,23 @@ fn put_account(accounts: &mut Vec<Account>, at: usize, account: Account) -> Resu
     }
 }
 
-/// Adds each amount to the account of its query.
-fn import_each(accounts: &mut Vec<Account>, charges: &[(TxnId, u64)])
+/// Adds each amount to the account of its query. Returns their sum.
+fn import_each(accounts: &mut Vec<Account>, charges: &[(TxnId, u64)]) -> u128
     requires ascending { IsAscendingBy number accounts.old.items }
     requires queries { All (λ c. is_open accounts.old.items c.0.0 ≡ true) charges.now }
     requires listed { IsAscendingBy (λ c. c.0.0) charges.now }
     requires fits { All (λ c. account_amount accounts.old.items c.0.0 + c.1 < 2 ^ 64) charges.now }
     ensures items { accounts.new.items ≡ charged_to_queries accounts.old.items charges.now }
     ensures ascending { IsAscendingBy number accounts.new.items }
+    ensures sum { result ≡ total_of charges.now }
+    ensures upper_bound { result < 2 ^ 127 }
 {
+    let mut imported: u128 = 0;
     for charge in charges {
         raise(accounts, charge.0, charge.1);
+        imported += u128::from(charge.1);
     }
+    imported
 }
 
 impl Ledgers {
@@ -202,8 +207,7 @@ impl Ledgers {
         requires fits { quote_of self.old u charges.now ≡ Quote.Fits }
         ensures { self.new ≡ charged self.old u charges.now }
     {
-        let total = total_charge(charges);
-        import_each(&mut self.accounts, charges);
+        let total = import_each(&mut self.accounts, charges);
         raise(&mut self.accounts, u, total as u64);
         self.total += total;
     }

@@ -1,4 +1,5 @@
-use Rattle.std.proofs.Common.{◌≡◌, ◌+◌, ◌<◌, ◌^◌, ◌∙◌, subst, sym, ap, ℕ, get_or, take, Option, unwrap_or, option_map}
+use Rattle.std.proofs.Common.{rules, arith, ◌≡◌, ◌+◌, ◌<◌, ◌^◌, ◌∙◌, subst, sym, ap, ℕ, get_or, take, Option, unwrap_or, option_map}
+use Rattle.std.proofs.lemmas.Grind.{common_steps}
 use Rattle.std.proofs.lemmas.List.{take_more}
 use Rattle.esr_base.specs.declared.numbers.TxnId.{TxnId}
 use Rattle.esr_ledgers.specs.Books.{account_of, raised, charged_to_queries, Account}
@@ -27,4 +28,6 @@ loop-charge-preserved c =
           ∙ (sym (charged_to_queries-push c.args.accounts.now.items (take c.loop-charge.charge-index c.args.charges.now) charge)
           ∙ ap (charged_to_queries c.args.accounts.now.items) (sym (take_more c.args.charges.now c.loop-charge.charge-index (record { 0 = 0 }, 0) c.loop-charge-test.true))));
       ascending = rw c.raise.ensures (raised_ascends charge.0.0 charge.1 c.loop-charge.accounts.items c.loop-charge.invariant.ascending);
+      sum = grind (arith, common_steps);
+      upper_bound = search rules;
     }
