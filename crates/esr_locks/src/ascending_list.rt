@@ -5,6 +5,10 @@
 //! than `MAX_EAGER_REMOVAL` elements are stored, this removal only increments the count of removed elements, which stay at the
 //! front. Once more than half of the stored elements are removed ones, the others move to the front. So in such a list the
 //! removal of the first element costs at most one move, amortized. Any other removal moves the elements after the removed one.
+//!
+//! Most lists have few elements. A list of at most `MAX_SHORT` is read from the end, which takes fewer steps than a binary
+//! search, and in most cases one, because a new transaction has the greatest number. An insertion or a removal moves the
+//! elements of such a list in a loop: `SmallVec::insert` and `SmallVec::remove` are calls, and rotate those of an inline list.
 
 ghost use Rattle.std.specs.Prelude.{◌≡◌, ℕ, ◌+◌, ◌*◌, ◌<◌, ◌≤◌, ◌==◌, [], ◌∷◌, drop, length, filter, not, IfOk, IfErr, slice_set};
 ghost use Rattle.std.specs.List.{insert, remove};
@@ -21,6 +25,9 @@ use std::marker::Model;
 
 /// The maximum number of stored elements of a list in which the removal of the first element moves the others at once.
 const MAX_EAGER_REMOVAL: usize = 64;
+
+/// The maximum number of elements of a list that is read from the end, and whose elements are moved in a loop.
+const MAX_SHORT: usize = 8;
 
 /// A list in ascending order of transaction numbers. The first `removed` stored elements do not belong to it.
 #[derive(Drop)]
@@ -56,9 +63,9 @@ fn remove_from_singleton<R: Numbered + MadeWith<Global> + Drop, const N: usize>(
     }
 }
 
-/// Inserts an element at an index. The capacity must be reserved. Most insertions are at the end and move nothing.
+/// Inserts an element at an index by moving the later ones up in a loop. The capacity must be reserved.
 #[inline(always)]
-fn insert_reserved<R: MadeWith<Global> + Drop, const N: usize>(
+fn insert_into_short<R: MadeWith<Global> + Copy + Drop, const N: usize>(
     elements: &mut SmallVec<R, N>,
     at: usize,
     element: R,
@@ -67,16 +74,51 @@ fn insert_reserved<R: MadeWith<Global> + Drop, const N: usize>(
     requires spare_capacity { HasRoomFor elements.old 1 }
     ensures { elements.new.items ≡ insert elements.old.items at element }
 {
-    if at == elements.len() {
+    let len = elements.len();
+    elements.push_reserved(element);
+    let stored = elements.as_mut_slice();
+    stored.copy_within(at..len, at + 1);
+    stored[at] = element;
+}
+
+/// Inserts an element at an index. The capacity must be reserved. Most insertions are at the end and move nothing.
+#[inline(always)]
+fn insert_reserved<R: MadeWith<Global> + Copy + Drop, const N: usize>(
+    elements: &mut SmallVec<R, N>,
+    at: usize,
+    element: R,
+)
+    requires in_range { at ≤ length elements.old.items }
+    requires spare_capacity { HasRoomFor elements.old 1 }
+    ensures { elements.new.items ≡ insert elements.old.items at element }
+{
+    let len = elements.len();
+    if at == len {
         elements.push_reserved(element);
+    } else if len <= MAX_SHORT {
+        insert_into_short(elements, at, element);
     } else {
         let _ = elements.insert(at, element);
     }
 }
 
+/// Removes the element at an index by moving the later ones down in a loop.
+#[inline(always)]
+fn remove_from_short<R: MadeWith<Global> + Copy + Drop, const N: usize>(
+    elements: &mut SmallVec<R, N>,
+    at: usize,
+)
+    requires { at < length elements.old.items }
+    ensures { elements.new.items ≡ remove elements.old.items at }
+{
+    let len = elements.len();
+    elements.as_mut_slice().copy_within(at + 1..len, at);
+    let _ = elements.pop();
+}
+
 /// Removes the element at an index after the removed ones. If it is the first of a long list, this only increments the count
 /// of removed elements. Returns the new count.
-fn remove_lazily<R: MadeWith<Global> + Drop, const N: usize>(
+fn remove_lazily<R: MadeWith<Global> + Copy + Drop, const N: usize>(
     elements: &mut SmallVec<R, N>,
     removed: usize,
     at: usize,
@@ -89,7 +131,11 @@ fn remove_lazily<R: MadeWith<Global> + Drop, const N: usize>(
     if at == 0 && len > MAX_EAGER_REMOVAL {
         return removed + 1;
     }
-    let _ = elements.remove(removed + at);
+    if len <= MAX_SHORT {
+        remove_from_short(elements, removed + at);
+    } else {
+        let _ = elements.remove(removed + at);
+    }
     removed
 }
 
@@ -110,6 +156,37 @@ fn compact<R: MadeWith<Global> + Copy + Drop, const N: usize>(
     elements.as_mut_slice().copy_within(removed..len, 0);
     elements.truncate(len - removed);
     0
+}
+
+/// Returns the index of a transaction's element, or else the index at which to insert it, by reading from the end.
+#[inline(always)]
+fn scan<R: Numbered>(elements: &[R], t: TxnId) -> Result<usize, usize>
+    requires { IsAscendingBy R.number elements.now }
+    ensures found { IfOk result (IsPlaceOf R.number elements.now t.0) }
+    ensures absent { IfErr result (IsGapFor R.number elements.now t.0) }
+{
+    let mut end = elements.len();
+    while end > 0 {
+        let number = elements[end - 1].number();
+        if number == t.0 {
+            return Ok(end - 1);
+        }
+        if number < t.0 {
+            return Err(end);
+        }
+        end -= 1;
+    }
+    Err(0)
+}
+
+/// Returns the index of a transaction's element, or else the index at which to insert it, by binary search.
+#[inline(never)]
+fn search_long<R: Numbered>(elements: &[R], t: TxnId) -> Result<usize, usize>
+    requires { IsAscendingBy R.number elements.now }
+    ensures found { IfOk result (IsPlaceOf R.number elements.now t.0) }
+    ensures absent { IfErr result (IsGapFor R.number elements.now t.0) }
+{
+    elements.binary_search_by_key(&t.0, |r| r.number())
 }
 
 impl<R: MadeWith<Global> + Copy + Drop, const N: usize> AscendingList<R, N> {
@@ -180,8 +257,8 @@ impl<R: MadeWith<Global> + Copy + Drop, const N: usize> AscendingList<R, N> {
     }
 
     /// Removes the element at an index.
-    #[inline(always)]
-    pub fn remove(&mut self, at: usize)
+    #[inline(never)]
+    fn remove(&mut self, at: usize)
         requires { at < length self.old.items }
         ensures { self.new.items ≡ remove self.old.items at }
     {
@@ -198,21 +275,16 @@ impl<R: Numbered + MadeWith<Global> + Copy + Drop, const N: usize> AscendingList
         ensures found { IfOk result (IsPlaceOf R.number self.now.items t.0) }
         ensures absent { IfErr result (IsGapFor R.number self.now.items t.0) }
     {
-        self.as_slice().binary_search_by_key(&t.0, |r| r.number())
-    }
-
-    /// Removes a transaction's element from a list of any length, by binary search.
-    #[inline(never)]
-    fn search_and_remove(&mut self, t: TxnId)
-        requires { IsAscendingBy R.number self.old.items }
-        ensures { self.new.items ≡ filter (λ r. not (R.number r == t.0)) self.old.items }
-    {
-        if let Ok(at) = self.search(t) {
-            self.remove(at);
+        let elements = self.as_slice();
+        if elements.len() <= MAX_SHORT {
+            scan(elements, t)
+        } else {
+            search_long(elements, t)
         }
     }
 
-    /// Removes a transaction's element, if there is one. Most lists have at most one element, and need no search.
+    /// Removes a transaction's element, if there is one. Most lists have at most one element, and need no search. In most
+    /// others there is none, since a release looks for an update among the queries too; so the removal is a separate function.
     #[inline(always)]
     pub fn remove_txn(&mut self, t: TxnId)
         requires { IsAscendingBy R.number self.old.items }
@@ -221,7 +293,11 @@ impl<R: Numbered + MadeWith<Global> + Copy + Drop, const N: usize> AscendingList
         match self.elements.len() {
             0 => {}
             1 => remove_from_singleton(&mut self.elements, t),
-            _ => self.search_and_remove(t),
+            _ => {
+                if let Ok(at) = self.search(t) {
+                    self.remove(at);
+                }
+            }
         }
     }
 }

@@ -6,7 +6,12 @@ pub returns-then-len-gt-MAX_EAGER_REMOVAL-clause-items : goal.returns-then-len-g
 returns-then-len-gt-MAX_EAGER_REMOVAL-clause-items g c =
     drop_one_more c.args.elements.now.items c.args.removed (c.args.removed + 1) c.args.at (omega (arith, c.requires)) refl c.if-at-eq0.true
 
-pub returns-clause-items : goal.returns-clause-items
-returns-clause-items g c =
+pub returns-then-len-le-MAX_SHORT-clause-items : goal.returns-then-len-le-MAX_SHORT-clause-items
+returns-then-len-le-MAX_SHORT-clause-items g c =
+    rw c.remove_from_short.ensures
+    (drop-remove c.args.elements.now.items c.args.removed c.args.at (c.args.removed + c.args.at) (omega (arith, c.requires)) refl)
+
+pub returns-else-len-le-MAX_SHORT-clause-items : goal.returns-else-len-le-MAX_SHORT-clause-items
+returns-else-len-le-MAX_SHORT-clause-items g c =
     rw c.remove.ensures.items
     (drop-remove c.args.elements.now.items c.args.removed c.args.at (c.args.removed + c.args.at) (omega (arith, c.requires)) refl)
