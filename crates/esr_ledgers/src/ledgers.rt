@@ -3,7 +3,7 @@
 //! One number is both totals, because the type makes imports and exports equal. Sums that could overflow 64 bits use
 //! 128 bits.
 
-ghost use Rattle.std.specs.Prelude.{◌≡◌, ◌+◌, ◌<◌, ◌≤◌, ◌^◌, [], true, false, All, OnOk, OnErr, find, length};
+ghost use Rattle.std.specs.Prelude.{◌≡◌, ◌+◌, ◌<◌, ◌≤◌, ◌^◌, [], true, false, All, None, Some, IfOk, IfErr, OnOk, OnErr, find, length};
 ghost use Rattle.std.specs.List.{insert};
 ghost use Rattle.esr_history.specs.Ascending.{IsAscendingBy};
 ghost use Rattle.esr_ledgers.specs.Books.{number, is_open, is_open_query, is_open_update, account_amount, new_account, with_account, total_of, would_pass, quote_of, charged_to_queries, charged, AreCharges, imports, exports};
@@ -44,18 +44,6 @@ impl Model for Ledgers {
     ghost invariant = { λ l. AreBooks l.accounts.items l.total };
 }
 
-/// Returns the sum of some charges.
-fn total_charge(charges: &[(TxnId, u64)]) -> u128
-    ensures sum { result ≡ total_of charges.now }
-    ensures upper_bound { result < 2 ^ 127 }
-{
-    let mut total: u128 = 0;
-    for charge in charges {
-        total += u128::from(charge.1);
-    }
-    total
-}
-
 /// Returns whether an additional amount would exceed the limit of a transaction.
 fn passes(accounts: &[Account], t: TxnId, amount: u128) -> bool
     requires ascending { IsAscendingBy number accounts.now }
@@ -67,18 +55,23 @@ fn passes(accounts: &[Account], t: TxnId, amount: u128) -> bool
     u128::from(account.amount) + amount > u128::from(account.limit)
 }
 
-/// Returns the first query whose limit would be exceeded.
-fn first_over(accounts: &[Account], charges: &[(TxnId, u64)]) -> Option<(TxnId, u64)>
+/// Returns the sum of some charges, or else the first whose query's limit would be exceeded.
+fn total_within(accounts: &[Account], charges: &[(TxnId, u64)]) -> Result<u128, (TxnId, u64)>
     requires ascending { IsAscendingBy number accounts.now }
     requires queries { All (λ c. is_open accounts.now c.0.0 ≡ true) charges.now }
-    ensures { result ≡ find (λ c. would_pass accounts.now c.0.0 c.1) charges.now }
+    ensures over { IfErr result (λ c. find (λ c. would_pass accounts.now c.0.0 c.1) charges.now ≡ Some c) }
+    ensures none_over { OnOk result (find (λ c. would_pass accounts.now c.0.0 c.1) charges.now ≡ None) }
+    ensures sum { IfOk result (λ total. total ≡ total_of charges.now) }
+    ensures upper_bound { IfOk result (λ total. total < 2 ^ 127) }
 {
+    let mut total: u128 = 0;
     for charge in charges {
         if passes(accounts, charge.0, u128::from(charge.1)) {
-            return Some(*charge);
+            return Err(*charge);
         }
+        total += u128::from(charge.1);
     }
-    None
+    Ok(total)
 }
 
 /// Inserts an account in ascending order. Most go to the end, so that none is moved.
@@ -191,10 +184,11 @@ impl Ledgers {
         requires { AreCharges self.now u charges.now }
         ensures { result ≡ quote_of self.now u charges.now }
     {
-        if let Some((q, _)) = first_over(&self.accounts, charges) {
-            return Quote::Import(q);
-        }
-        if passes(&self.accounts, u, total_charge(charges)) {
+        let total = match total_within(&self.accounts, charges) {
+            Ok(total) => total,
+            Err((q, _)) => return Quote::Import(q),
+        };
+        if passes(&self.accounts, u, total) {
             Quote::Export(u)
         } else {
             Quote::Fits

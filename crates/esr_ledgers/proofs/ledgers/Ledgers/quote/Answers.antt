@@ -2,8 +2,8 @@ use Rattle.esr_ledgers.specs.Books.{AreCharges}
 use Rattle.esr_ledgers.proofs.Books.{all_open, update_open}
 use Rattle.esr_ledgers.proofs.ledgers.Ledgers.quote.Goals as goal
 
-pub first_over-requires-clause-queries : goal.first_over-requires-clause-queries
-first_over-requires-clause-queries c =
+pub total_within-requires-clause-queries : goal.total_within-requires-clause-queries
+total_within-requires-clause-queries c =
     let are : AreCharges c.self.inside.accounts.items c.args.u c.args.charges.now = rw c.self.view_is c.requires in
     rw c.deref.ensures.value (all_open c.self.inside.accounts.items c.self.inside.total c.self.invariant c.args.u c.args.charges.now are)
 
