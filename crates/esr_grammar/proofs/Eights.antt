@@ -1,5 +1,5 @@
 -- Eight bytes as the digits of a number.
-use Rattle.std.proofs.Common.{◌≡◌, ℕ, zero, suc, ◌+◌, ◌-◌, ◌*◌, ◌%◌, ◌^◌, ◌<◌, ◌≤◌, Bool, true, false, not, ◌&&◌, ◌||◌, cond, List, [], ◌∷◌, ◌++◌, map, length, get_or, replicate, nat_lt, nat_eq, Fits, w8, refl, sym, ap, ap₂, ◌∙◌, arith, eqb-true, lt-ltb, ltb-true, inl, inr, drop, take, length-drop, length-append}
+use Rattle.std.proofs.Common.{◌≡◌, ℕ, zero, suc, ◌+◌, ◌-◌, ◌*◌, ◌%◌, ◌^◌, ◌<◌, ◌≤◌, Bool, true, false, not, ◌&&◌, ◌||◌, cond, List, [], ◌∷◌, ◌++◌, map, length, get_or, replicate, nat_lt, nat_eq, Fits, w8, refl, sym, ap, ap₂, ◌∙◌, arith, eqb-true, lt-ltb, ltb-true, inl, inr, drop, length-drop, length-append}
 use Rattle.std.proofs.Math.Nat.{pow-succ'}
 use Rattle.std.proofs.lemmas.Bool.{true≢false, agree_below_at, and_parts, cases_Bool}
 use Rattle.std.proofs.lemmas.List.{length-map, drop-append-le, take_all}
@@ -120,15 +120,15 @@ some_above (x ∷ xs) h = elim (cases_Bool (nat_lt x 10)) [
 nothing : (t w : ℕ) → 0 * t + w ≡ w
 nothing t w = omega arith
 
--- the last eight bytes of a text that ends with a number
-pub last_eight : (text front number : List ℕ) → text ≡ front ++ number → 8 ≤ length text → length number ≤ 8
-    → (chunk (length text - 8) 8 text ≡ drop (length text - 8) front ++ number) × (length (drop (length text - 8) front) ≡ 8 - length number)
-last_eight text front number e long short =
-    let total : length text ≡ length front + length number = ap length e ∙ length-append front number in
-    let i = length text - 8 in
-    let cut : drop i text ≡ drop i front ++ number = ap (drop i) e ∙ drop-append-le i front number (omega (arith, total, short, long)) in
-    let few : length (drop i text) ≤ 8 = omega (arith, length-drop i text) in
-    (take_all 8 (drop i text) few ∙ cut, omega (arith, length-drop i front, total, long))
+-- the last n bytes of a text that ends with a word
+pub last_of : (n : ℕ) (text front word : List ℕ) → text ≡ front ++ word → n ≤ length text → length word ≤ n
+    → (chunk (length text - n) n text ≡ drop (length text - n) front ++ word) × (length (drop (length text - n) front) ≡ n - length word)
+last_of n text front word e long short =
+    let total : length text ≡ length front + length word = ap length e ∙ length-append front word in
+    let i = length text - n in
+    let cut : drop i text ≡ drop i front ++ word = ap (drop i) e ∙ drop-append-le i front word (omega (arith, total, short, long)) in
+    let few : length (drop i text) ≤ n = omega (arith, length-drop i text) in
+    (take_all n (drop i text) few ∙ cut, omega (arith, length-drop i front, total, long))
 
 -- what the digits of the last eight bytes say of the number
 pub record IsNumber (text number : List ℕ) : Type 0 where
@@ -137,7 +137,7 @@ pub record IsNumber (text number : List ℕ) : Type 0 where
 
 pub number_in : (text front number : List ℕ) → AreBytes number → text ≡ front ++ number → 8 ≤ length text → length number ≤ 8 → IsNumber text number
 number_in text front number bytes e long short =
-    let eight = last_eight text front number e long short in
+    let eight = last_of 8 text front number e long short in
     let before = drop (length text - 8) front in
     let is : padded (8 - length number) (chunk (length text - 8) 8 text) ≡ replicate (length before) 0 ++ map digit_of number =
     ap₂ padded (sym eight.1) eight.0 ∙ padded_after before number in

@@ -1,6 +1,6 @@
 -- The first line feed, as a search by many bytes at once finds it.
-use Rattle.std.proofs.Common.{◌≡◌, refl, ℕ, ◌<◌, ◌≤◌, List, Bool, true, false, length, get_or, sym, ◌∙◌, ap, arith, Some, None, Option, cond, nat_eq, nat_lt, lt-ltb, le-ltb}
-use Rattle.std.specs.List.{position, position_or_len}
+use Rattle.std.proofs.Common.{◌≡◌, refl, ℕ, List, Bool, true, false, length, sym, arith, Some, None, Option, nat_eq, lt-ltb, le-ltb}
+use Rattle.std.specs.List.{position}
 use Rattle.std.proofs.lemmas.List.Sums.{position_or_len_is}
 use Rattle.memchr.specs.Find.{IsFirstByte, is_byte}
 

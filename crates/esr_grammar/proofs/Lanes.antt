@@ -1,5 +1,5 @@
 -- The first byte that passes a test, found by a mask of the first bytes, which is computed lane by lane.
-use Rattle.std.proofs.Common.{◌≡◌, ℕ, ◌+◌, ◌-◌, ◌%◌, ◌^◌, ◌<◌, ◌≤◌, Bool, true, false, not, cond, List, [], ◌∷◌, map, length, get_or, replicate, Some, None, position, nat_lt, Fits, w8, refl, sym, ap, ap₂, ◌∙◌, arith, inl, inr, lt-ltb}
+use Rattle.std.proofs.Common.{◌≡◌, ℕ, ◌+◌, ◌%◌, ◌^◌, ◌<◌, ◌≤◌, Bool, true, not, List, [], ◌∷◌, map, length, get_or, replicate, Some, position, Fits, w8, refl, sym, ap, ap₂, ◌∙◌, arith, inl, inr, lt-ltb}
 use Rattle.std.proofs.lemmas.Bool.{agree_below, agree_below_at, cases_Bool}
 use Rattle.std.proofs.lemmas.Simd.{map-map, mask_l-mod, length-chunk, trailing_mask_l, run_in_chunk_fails, run_in_chunk_stops}
 use Rattle.std.proofs.lemmas.List.{length-map}
@@ -44,15 +44,26 @@ none_set p (x ∷ xs) e = elim (cases_Bool (p x)) [
   | inr fails ↦ let more : 1 + prefix_len (λ y. not (p y)) xs ≡ length (x ∷ xs) = rw fails at e in rw (fails, none_set p xs (omega (arith, more))) refl
 ]
 
+-- the lowest bit of the mask of the first n bytes, of which one passes
+counted : (p : ℕ → Bool) (n : ℕ) (bytes : List ℕ) (mask : ℕ) → n ≤ 64 → n ≤ length bytes → mask ≡ mask_l (map p (chunk 0 n bytes)) → (mask ≡ 0 → ⊥)
+    → (count_trailing_zeros 64 mask ≡ prefix_len (λ x. not (p x)) (chunk 0 n bytes)) × (count_trailing_zeros 64 mask < n)
+counted p n bytes mask few room is some =
+    let v = chunk 0 n bytes in
+    let place = count_trailing_zeros 64 mask in
+    let long : length v ≡ n = length-chunk 0 n bytes (omega (arith, room)) in
+    let among : place ≡ prefix_len (λ x. not (p x)) v = ap (count_trailing_zeros 64) is ∙ trailing_mask_l p 64 v (omega (arith, long)) (omega (arith, is, some)) in
+    (among, omega (arith, among, long, prefix_len-le-length (λ x. not (p x)) v, λ (e : prefix_len (λ x. not (p x)) v ≡ length v). some (is ∙ none_set p v e)))
+
+pub first_within : (p : ℕ → Bool) (n : ℕ) (bytes : List ℕ) (mask : ℕ) → n ≤ 64 → n ≤ length bytes → mask ≡ mask_l (map p (chunk 0 n bytes)) → (mask ≡ 0 → ⊥)
+    → count_trailing_zeros 64 mask < n
+first_within p n bytes mask few room is some = (counted p n bytes mask few room is some).1
+
 -- the lowest bit of the mask of the first n bytes is the first byte that passes
 pub first_passes : (p : ℕ → Bool) (n : ℕ) (bytes : List ℕ) (mask : ℕ) → n ≤ 64 → n ≤ length bytes → mask ≡ mask_l (map p (chunk 0 n bytes)) → (mask ≡ 0 → ⊥) → Some (count_trailing_zeros 64 mask) ≡ position p bytes
 first_passes p n bytes mask few room is some =
-    let v = chunk 0 n bytes in
     let place = count_trailing_zeros 64 mask in
     let within : 0 + n ≤ length bytes = omega (arith, room) in
-    let long : length v ≡ n = length-chunk 0 n bytes within in
-    let counted : place ≡ prefix_len (λ x. not (p x)) v = ap (count_trailing_zeros 64) is ∙ trailing_mask_l p 64 v (omega (arith, long)) (omega (arith, is, some)) in
-    let short : place < n = omega (arith, counted, long, prefix_len-le-length (λ x. not (p x)) v, λ (e : prefix_len (λ x. not (p x)) v ≡ length v). some (is ∙ none_set p v e)) in
+    let among = counted p n bytes mask few room is some in
     let here : place ≡ 0 + place = omega arith in
-    let at = position_or_len_is p bytes place 0 (omega arith) (λ k before. run_in_chunk_fails p bytes 0 n place 0 within counted k (omega arith) (omega (arith, before))) (λ inside. ap (λ k. p (get_or bytes k 0)) here ∙ run_in_chunk_stops p bytes 0 n place 0 within counted short) in
-    rw (at, lt-ltb place (length bytes) (omega arith)) refl
+    let at = position_or_len_is p bytes place 0 (omega arith) (λ k before. run_in_chunk_fails p bytes 0 n place 0 within among.0 k (omega arith) (omega (arith, before))) (λ inside. ap (λ k. p (get_or bytes k 0)) here ∙ run_in_chunk_stops p bytes 0 n place 0 within among.0 among.1) in
+    rw (at, lt-ltb place (length bytes) (omega (arith, among.1, room))) refl

@@ -13,3 +13,4 @@ pub mod Lasts
 pub mod Fronts
 pub mod Feeds
 pub mod Spelling
+pub mod Stops

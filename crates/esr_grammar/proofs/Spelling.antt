@@ -1,5 +1,5 @@
 -- The text of a command, and the command that is read from it.
-use Rattle.std.proofs.Common.{◌≡◌, ℕ, ◌<◌, ◌^◌, ℤ, nat_abs, List, [], ◌∷◌, inl, inr, ◌⊎◌, true, false, not, ◌&&◌, cond, refl, ◌∙◌, ap, subst, arith, nat_eq, Some, None, Option, option_map, option_and_then, codes, decimal}
+use Rattle.std.proofs.Common.{◌≡◌, ◌↔◌, IsTrue, ℕ, ◌<◌, ◌^◌, ℤ, nat_abs, List, [], ◌∷◌, inl, inr, ◌⊎◌, true, false, not, ◌&&◌, cond, refl, sym, ◌∙◌, ap, subst, arith, nat_eq, Some, None, Option, option_map, option_and_then, codes, decimal}
 use Rattle.std.specs.List.{AllByRecursion, join_with_byte}
 use Rattle.std.specs.Option.{option_or}
 use Rattle.std.specs.Str.{bytes_eq}
@@ -7,8 +7,10 @@ use Rattle.std.specs.Fmt.{signed_decimal}
 use Rattle.std.proofs.lemmas.List.Elements.{All-nil, All-cons}
 use Rattle.std.proofs.lemmas.List.Splits.{join_with_byte-slice_split}
 use Rattle.std.proofs.lemmas.Slice.Eq.{bytes_eq-Decides}
-use Rattle.esr_grammar.specs.Command.{Command, item, weighted_item, begin_update, begin_query, begin_strict_query, read, write, commit, abort, audit, totals, words, is_name, IsName, IsLimit, IsCommand, IsSyntaxOf, IsPlainWord, words_of, name_of, limit_in, int_of, one_of, two_of, three_of, four_of, both, plain_item_command, weighted_item_command, item_command, plain_begin_command, strict_query_command, begin_command, read_command, write_command, one_name_of, totals_command, command_of, command_by, reading}
-use Rattle.std.proofs.lemmas.Bool.{cases_Bool, and_parts, not-true}
+use Rattle.esr_grammar.specs.Command.{Command, item, weighted_item, begin_update, begin_query, begin_strict_query, read, write, commit, abort, audit, totals, words, is_name, IsName, IsLimit, IsCommand, IsSyntaxOf, IsPlainWord, words_of, name_of, limit_in, int_of, one_of, two_of, three_of, four_of, both, plain_item_command, weighted_item_command, item_command, plain_begin_command, strict_query_command, begin_command, read_command, write_command, one_name_of, totals_command, command_of, command_by, reading, is_skipped, spelling, command_in, IsReadingOf}
+use Rattle.esr_grammar.specs.declared.parse.Parsed.{Parsed}
+use Rattle.esr_grammar.specs.declared.parse.Parsed.TheVariants as parsed
+use Rattle.std.proofs.lemmas.Bool.{cases_Bool, and_parts, not-true, true≢false}
 use Rattle.esr_grammar.proofs.Bytes.{lacks, name_lacks, number_lacks, int_lacks}
 use Rattle.esr_grammar.proofs.Laws.{and_then_some, map_some, split_join, number_round_trip, number_found, int_round_trip, int_found}
 use Rattle.std.proofs.lemmas.Grind.{common_steps}
@@ -241,3 +243,31 @@ by_words (k ∷ ws) c e = following k ws c e
 
 pub read_back : (line : List ℕ) (c : Command) → reading line ≡ Some c → IsSyntaxOf line c
 read_back line c e = grind (arith, by_words (words_of line) c e, join_with_byte-slice_split 32 line)
+
+-- ---- a skipped line is no command
+
+first_byte : (c : Command) → is_skipped (spelling c) ≡ false
+first_byte (item n v) = refl
+first_byte (weighted_item n v w) = refl
+first_byte (begin_update n l) = refl
+first_byte (begin_query n l) = refl
+first_byte (begin_strict_query n l) = refl
+first_byte (read t x) = refl
+first_byte (write t x v) = refl
+first_byte (commit t) = refl
+first_byte (abort t) = refl
+first_byte (audit t) = refl
+first_byte totals = refl
+
+pub not_skipped : (line : List ℕ) (c : Command) → IsSyntaxOf line c → is_skipped line ≡ false
+not_skipped line c h = ap is_skipped h.1 ∙ first_byte c
+
+pub is_skipped_as_read : (line : List ℕ) (p : Parsed) → IsReadingOf line p → (p ≡ parsed.Skipped) ↔ IsTrue (is_skipped line)
+is_skipped_as_read line parsed.Skipped h = (λ e. h, λ t. refl)
+is_skipped_as_read line parsed.NotACommand h = (λ e. cc, λ t. absurd (true≢false (sym t ∙ h.0)))
+is_skipped_as_read line (parsed.Command l) h = (λ e. cc, λ t. absurd (true≢false (sym t ∙ h.0)))
+
+pub is_command_as_read : (line : List ℕ) (p : Parsed) → IsReadingOf line p → (c : Command) → (command_in p ≡ Some c) ↔ IsSyntaxOf line c
+is_command_as_read line parsed.Skipped h c = (λ e. cc, λ k. absurd (true≢false (sym h ∙ not_skipped line c k)))
+is_command_as_read line parsed.NotACommand h c = (λ e. cc, λ k. sym h.1 ∙ spelled line c k)
+is_command_as_read line (parsed.Command l) h c = (λ e. read_back line c (h.1 ∙ e), λ k. sym h.1 ∙ spelled line c k)

@@ -4,3 +4,4 @@ pub mod Lines
 pub mod Command
 pub mod Classes
 pub mod Digits
+pub mod Stops

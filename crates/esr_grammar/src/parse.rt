@@ -204,8 +204,6 @@ fn totals(words: Option<&[u8]>) -> Option<Line<'static>>
 }
 
 /// Parses a line word by word.
-#[cold]
-#[inline(never)]
 fn by_words(line: &[u8]) -> Option<Line<'_>>
     ensures { option_map view result ≡ reading line.now }
 {
@@ -227,14 +225,18 @@ fn by_words(line: &[u8]) -> Option<Line<'_>>
     }
 }
 
-/// Parses a line as a command.
-#[inline(always)]
-fn command(line: &[u8]) -> Option<Line<'_>>
-    ensures { option_map view result ≡ reading line.now }
+/// Parses a line that is none of the frequent commands.
+#[cold]
+#[inline(never)]
+fn other_line(line: &[u8]) -> Parsed<'_>
+    ensures { IsReadingOf line.now result }
 {
-    match quick(line) {
-        Some(found) => Some(found),
-        None => by_words(line),
+    if is_skipped(line) {
+        return Parsed::Skipped;
+    }
+    match by_words(line) {
+        Some(line) => Parsed::Command(line),
+        None => Parsed::NotACommand,
     }
 }
 
@@ -249,11 +251,8 @@ pub fn parse_line(line: &[u8]) -> Parsed<'_>
     // Parsing a line, and the text of a command, are inverse.
     ensures law { (c : Command) → (reading line.now ≡ Some c) ↔ IsSyntaxOf line.now c }
 {
-    if is_skipped(line) {
-        return Parsed::Skipped;
-    }
-    match command(line) {
-        Some(line) => Parsed::Command(line),
-        None => Parsed::NotACommand,
+    match quick(line) {
+        Some(found) => Parsed::Command(found),
+        None => other_line(line),
     }
 }

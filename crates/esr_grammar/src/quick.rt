@@ -1,12 +1,17 @@
-//! The most frequent lines of scripts, read in one pass: each byte is classified once, those of a name eight at a time.
+//! The most frequent lines of scripts, read in one pass: each byte is classified once, those of the two names of a read or
+//! a write together, sixteen at a time.
+//!
+//! The names of a read are among the last sixteen bytes of most lines, those of a write among the first sixteen bytes
+//! after the first word. Other names are tested eight bytes at a time, and long ones byte by byte.
 //!
 //! The line is the text of the returned command. If none is returned, the words of the line decide (`parse`), so this
 //! module need not recognize every line.
 
-ghost use Rattle.std.specs.Prelude.{◌≡◌, ℕ, List, ◌∷◌, ◌++◌, IfSome, codes, map, not, option_map, true};
+ghost use Rattle.std.specs.Prelude.{◌≡◌, ℕ, ◌+◌, ◌/◌, ◌≤◌, ◌^◌, List, ◌∷◌, ◌++◌, IfSome, Some, codes, length, map, option_map};
 ghost use Rattle.std.specs.List.{list_all, position};
 ghost use Rattle.std.specs.Simd.Lanes.{mask_l};
-ghost use Rattle.esr_grammar.specs.Command.{is_letter, is_name, is_name_byte, name_of, IsName, IsSyntaxOf, view};
+ghost use Rattle.esr_grammar.specs.Command.{is_name, is_name_byte, name_of, IsName, IsSyntaxOf, view};
+ghost use Rattle.esr_grammar.specs.Stops.{is_stop, starts_with_letter, AreStops};
 
 use crate::parse::Line;
 use crate::words::{all_name_bytes, int_at_end, is_letter, is_name_byte, limit, name};
@@ -15,18 +20,19 @@ use std::str::from_utf8_unchecked;
 
 /// Returns a mask with a bit for each byte that is not permitted in a name.
 #[inline(always)]
-fn name_stops(bytes: u8x8) -> u64
-    ensures { result ≡ mask_l (map (λ b. not (is_name_byte b)) bytes) }
+fn name_stops<const N: usize>(bytes: Simd<u8, N>) -> u64
+    requires { N ≤ 64 }
+    ensures { result ≡ mask_l (map is_stop bytes.entry) }
 {
-    let lowercase = bytes | u8x8::splat(0x20);
-    let is_no_letter = (lowercase - u8x8::splat(b'a')).simd_ge(u8x8::splat(26));
-    let is_no_digit = (bytes - u8x8::splat(b'0')).simd_ge(u8x8::splat(10));
-    (is_no_letter & is_no_digit & bytes.simd_ne(u8x8::splat(b'_'))).to_bitmask()
+    let lowercase = bytes | Simd::splat(0x20);
+    let is_no_letter = (lowercase - Simd::splat(b'a')).simd_ge(Simd::splat(26));
+    let is_no_digit = (bytes - Simd::splat(b'0')).simd_ge(Simd::splat(10));
+    (is_no_letter & is_no_digit & bytes.simd_ne(Simd::splat(b'_'))).to_bitmask()
 }
 
 /// Returns the index of the first byte that is not permitted in a name. Tests one byte at a time.
 fn name_end_by_bytes(bytes: &[u8]) -> Option<usize>
-    ensures { result ≡ position (λ b. not (is_name_byte b)) bytes.now }
+    ensures { result ≡ position is_stop bytes.now }
 {
     bytes.iter().position(|b| !is_name_byte(*b))
 }
@@ -34,7 +40,7 @@ fn name_end_by_bytes(bytes: &[u8]) -> Option<usize>
 /// Returns the index of the first byte that is not permitted in a name. Most names end within eight bytes.
 #[inline(always)]
 fn name_end(bytes: &[u8]) -> Option<usize>
-    ensures { result ≡ position (λ b. not (is_name_byte b)) bytes.now }
+    ensures { result ≡ position is_stop bytes.now }
 {
     if bytes.len() >= 8 {
         let stops = name_stops(u8x8::from_slice(bytes));
@@ -43,15 +49,6 @@ fn name_end(bytes: &[u8]) -> Option<usize>
         }
     }
     name_end_by_bytes(bytes)
-}
-
-/// Returns whether a byte that is permitted in a name is a letter.
-#[inline(always)]
-fn is_letter_of_name(byte: u8) -> bool
-    requires { is_name_byte byte ≡ true }
-    ensures { result ≡ is_letter byte }
-{
-    byte > b'9' && byte != b'_'
 }
 
 /// Returns whether a name may contain each byte of the word, with which the text ends. Most words have up to eight bytes.
@@ -94,22 +91,18 @@ fn name_at_end<'a>(text: &[u8], word: &'a [u8]) -> Option<&'a str>
     Some(unsafe { from_utf8_unchecked(word) })
 }
 
-/// Returns the name before the first space, and the text after the space.
+/// Returns the name before this place, and the text after it, given the place of the first byte that is not permitted in
+/// a name. This byte must be a space.
 #[inline(always)]
-fn front_name(bytes: &[u8]) -> Option<(&str, &[u8])>
+fn cut_name(bytes: &[u8], place: usize) -> Option<(&str, &[u8])>
+    requires first { position is_stop bytes.now ≡ Some place }
+    requires short { place ≤ 16 }
     ensures { IfSome result (λ p. IsName p.0.now × (bytes.now ≡ p.0.now ++ 32 ∷ p.1.now)) }
 {
-    let place = name_end(bytes)?;
     if bytes[place] != b' ' {
         return None;
     }
-    if place == 0 {
-        return None;
-    }
-    if place > 16 {
-        return None;
-    }
-    if !is_letter_of_name(bytes[0]) {
+    if !is_letter(bytes[0]) {
         return None;
     }
     // the bytes of a name are ASCII
@@ -117,22 +110,105 @@ fn front_name(bytes: &[u8]) -> Option<(&str, &[u8])>
     Some((name, &bytes[place + 1..]))
 }
 
+/// Returns the name before the first space, and the text after the space.
+#[inline(always)]
+fn front_name(bytes: &[u8]) -> Option<(&str, &[u8])>
+    ensures { IfSome result (λ p. IsName p.0.now × (bytes.now ≡ p.0.now ++ 32 ∷ p.1.now)) }
+{
+    let place = name_end(bytes)?;
+    if place > 16 {
+        return None;
+    }
+    cut_name(bytes, place)
+}
+
+/// Returns the name before the first space, and the text after the space, given a mask of the first bytes that are not
+/// permitted in a name.
+#[inline(always)]
+fn front_name_in(bytes: &[u8], stops: u64) -> Option<(&str, &[u8])>
+    requires { AreStops bytes.now stops }
+    ensures { IfSome result (λ p. IsName p.0.now × (bytes.now ≡ p.0.now ++ 32 ∷ p.1.now)) }
+{
+    if stops == 0 {
+        return front_name(bytes);
+    }
+    cut_name(bytes, stops.trailing_zeros() as usize)
+}
+
+/// Returns the part of a mask that is of the bytes after a name and a space.
+#[inline(always)]
+fn stops_after(stops: u64, name: &str) -> u64
+    requires { IsName name.now }
+    ensures { result ≡ stops / 2 ^ (length name.now + 1) }
+{
+    stops >> (name.len() + 1)
+}
+
+/// Returns a mask of the first 16 bytes that are not permitted in a name, or an empty one if there are fewer bytes.
+#[inline(always)]
+fn first_stops(bytes: &[u8]) -> u64
+    ensures { AreStops bytes.now result }
+{
+    if bytes.len() >= 16 {
+        name_stops(u8x16::from_slice(bytes))
+    } else {
+        0
+    }
+}
+
 /// Parses `write NAME NAME INT`, after its first word.
 #[inline(always)]
 fn write(words: &[u8]) -> Option<Line<'_>>
     ensures { IfSome result (λ line. IsSyntaxOf (codes "write " ++ words.now) (view line)) }
 {
-    let (txn, more) = front_name(words)?;
-    let (item, last) = front_name(more)?;
+    let stops = first_stops(words);
+    let (txn, more) = front_name_in(words, stops)?;
+    let (item, last) = front_name_in(more, stops_after(stops, txn))?;
     let value = int_at_end(words, last)?;
     Some(Line::Write { txn, item, value })
 }
 
-/// Parses `read NAME NAME`, after its first word.
+/// Returns whether the first byte is a letter.
 #[inline(always)]
-fn read(words: &[u8]) -> Option<Line<'_>>
+fn starts_with_letter(bytes: &[u8]) -> bool
+    ensures { result ≡ starts_with_letter bytes.now }
+{
+    match bytes.split_first() {
+        None => false,
+        Some((first, _)) => is_letter(*first),
+    }
+}
+
+/// Parses `read NAME NAME`, after its first word, given the mask of the bytes that are not permitted in a name.
+#[inline(always)]
+fn read_names(words: &[u8], stops: u64) -> Option<Line<'_>>
+    requires short { length words.now ≤ 16 }
+    requires stops { stops ≡ mask_l (map is_stop words.now) }
     ensures { IfSome result (λ line. IsSyntaxOf (codes "read " ++ words.now) (view line)) }
 {
+    let (txn, last) = front_name_in(words, stops)?;
+    if stops_after(stops, txn) != 0 {
+        return None;
+    }
+    if !starts_with_letter(last) {
+        return None;
+    }
+    // the bytes of a name are ASCII
+    let item = unsafe { from_utf8_unchecked(last) };
+    Some(Line::Read { txn, item })
+}
+
+/// Parses `read NAME NAME`, given the line and the words after its first.
+#[inline(always)]
+fn read<'a>(line: &[u8], words: &'a [u8]) -> Option<Line<'a>>
+    requires { line.now ≡ codes "read " ++ words.now }
+    ensures { IfSome result (λ found. IsSyntaxOf line.now (view found)) }
+{
+    // the words are among the last 16 bytes, since 5 bytes are before them
+    if line.len() >= 16 && line.len() <= 21 {
+        let stops = name_stops(u8x16::from_slice(&line[line.len() - 16..]));
+        return read_names(words, stops >> (21 - line.len()));
+    }
     let (txn, last) = front_name(words)?;
     let item = name_at_end(words, last)?;
     Some(Line::Read { txn, item })
@@ -227,13 +303,14 @@ fn write_line(bytes: &[u8]) -> Option<Line<'_>>
     }
 }
 
-/// Parses a line that begins with `read`, after these bytes.
+/// Parses a line that begins with `read`, given the line and the text after these bytes.
 #[inline(always)]
-fn read_line(bytes: &[u8]) -> Option<Line<'_>>
-    ensures { IfSome result (λ line. IsSyntaxOf (codes "read" ++ bytes.now) (view line)) }
+fn read_line<'a>(line: &[u8], bytes: &'a [u8]) -> Option<Line<'a>>
+    requires { line.now ≡ codes "read" ++ bytes.now }
+    ensures { IfSome result (λ found. IsSyntaxOf line.now (view found)) }
 {
     match bytes {
-        [b' ', words @ ..] => read(words),
+        [b' ', words @ ..] => read(line, words),
         _ => None,
     }
 }
@@ -258,7 +335,7 @@ pub fn quick(line: &[u8]) -> Option<Line<'_>>
     let first = line.first_chunk::<4>()?;
     match u32::from_le_bytes(*first) {
         WRIT => write_line(&line[4..]),
-        READ => read_line(&line[4..]),
+        READ => read_line(line, &line[4..]),
         _ => other_line(line),
     }
 }

@@ -1,10 +1,17 @@
 use mir.Val.{to_z, of_z}
-use Rattle.std.proofs.Common.{w64, ◌≡◌, sym, ap, ◌∙◌, ◌++◌, ◌∷◌, []}
+use Rattle.std.proofs.Common.{w64, ◌≡◌, sym, ap, ◌∙◌, ◌++◌, ◌∷◌, [], subst}
 use Rattle.std.proofs.lemmas.Int.{to_z-of_z}
+use Rattle.esr_grammar.specs.Stops.{AreStops}
 use Rattle.esr_grammar.proofs.Fronts.{int_fits}
 use Rattle.esr_grammar.proofs.Eights.{past_two}
 use Rattle.esr_grammar.proofs.Laws.{int_found}
+use Rattle.esr_grammar.proofs.Stops.{are_after}
 use Rattle.esr_grammar.proofs.quick.write.Goals as goal
+
+pub front_name_in-requires-2 : goal.front_name_in-requires-2
+front_name_in-requires-2 c =
+    let txn = c.in_ok-txn in
+    subst (AreStops txn.more.now) (sym c.stops_after.ensures) (are_after c.args.words.now txn.txn.now txn.more.now c.first_stops-stops.result c.first_stops-stops.ensures txn.ensures.1)
 
 pub int_at_end-requires : goal.int_at_end-requires
 int_at_end-requires c =

@@ -1,4 +1,4 @@
-use Rattle.std.proofs.Common.{◌++◌, ◌∷◌, [], ap, ◌∙◌, sym}
+use Rattle.std.proofs.Common.{◌++◌, ◌∷◌, [], ap, ◌∙◌}
 use Rattle.esr_grammar.proofs.Eights.{past_first}
 use Rattle.esr_grammar.proofs.words.int_at_end.Goals as goal
 
