@@ -1,5 +1,5 @@
 -- The place of a name in its table, given its key.
-use Rattle.std.proofs.Common.{◌≡◌, ℕ, suc, ◌+◌, ◌<◌, List, [], ◌∷◌, ◌++◌, inl, inr, Bool, true, false, ◌&&◌, not, cond, nat_lt, map, length, All, refl, sym, ◌∙◌, ap, subst, get_or, arith, Some, None, nat_eq, bytes_eq, eqb-true, eq-eqb}
+use Rattle.std.proofs.Common.{◌≡◌, ℕ, suc, ◌+◌, ◌<◌, ◌≤◌, List, [], ◌∷◌, ◌++◌, inl, inr, Bool, true, false, ◌&&◌, not, cond, nat_lt, map, length, All, refl, sym, ◌∙◌, ap, subst, arith, Some, None, nat_eq, bytes_eq, eqb-true, eq-eqb}
 use Rattle.std.specs.List.{position, position_or_len, list_any, slice_get}
 use Rattle.std.specs.Option.{option_map}
 use Rattle.std.proofs.lemmas.Bool.{cases_Bool, and_parts}
@@ -65,12 +65,22 @@ key_place k name is entries h =
     ap (λ n. cond (nat_lt n (length (map (λ (e : Entry). e.0) entries))) (Some n) None) (place_of k name is entries h)
     ∙ ap (λ m. cond (nat_lt at m) (Some at) None) (as_many entries)
 
+entry_keyed : (entries : List Entry) → AreKeyed entries → (p : ℕ) (e : Entry) → slice_get entries p ≡ Some e → IsKeyOf e.0 e.1.bytes
+entry_keyed entries h p e at =
+    subst (λ (x : Entry). IsKeyOf x.0 x.1.bytes) (get_or_from_slice_get entries p e e at) (h p e (slice_get_within entries p e at))
+
+-- a key that an entry has is of no longer name
+pub cached_short : (k : Key) (entries : List Entry) → AreKeyed entries → (p : ℕ) (e : Entry) → slice_get entries p ≡ Some e → same_key e.0 k ≡ true → k.length ≤ 16
+cached_short k entries h p e at same =
+    let keyed = entry_keyed entries h p e at in
+    let equal : e.0.length ≡ k.length = eqb-true _ _ (and_parts _ _ (and_parts _ _ same).1).1 in
+    omega (arith, keyed.short, keyed.length, equal)
+
 -- the position of the entry with a key is that of its name
 pub cached_is : (k : Key) (name : List ℕ) → IsKeyOf k name → (entries : List Entry) → AreKeyed entries → all_distinct (map (λ (e : Entry). e.1.bytes) entries) ≡ true
     → (p : ℕ) (e : Entry) → slice_get entries p ≡ Some e → same_key e.0 k ≡ true → position_of (map (λ (x : Entry). x.1.bytes) entries) name ≡ Some p
 cached_is k name is entries h apart p e at same =
-    let here : get_or entries p e ≡ e = get_or_from_slice_get entries p e e at in
-    let keyed : IsKeyOf e.0 e.1.bytes = subst (λ (x : Entry). IsKeyOf x.0 x.1.bytes) here (h p e (slice_get_within entries p e at)) in
+    let keyed = entry_keyed entries h p e at in
     let named : slice_get (map (λ (x : Entry). x.1.bytes) entries) p ≡ Some name =
     slice_get-map (λ (x : Entry). x.1.bytes) entries p ∙ ap (option_map (λ (x : Entry). x.1.bytes)) at ∙ ap (λ t. Some t) (one_key e.0 k e.1.bytes name keyed is same) in
     position_at (map (λ (x : Entry). x.1.bytes) entries) p name apart named

@@ -94,10 +94,13 @@ impl Names {
         self.names.len()
     }
 
-    /// Returns the position of the name with this key, if the cache has it.
+    /// Returns the position of the name with this key, if the cache has it. The key of a longer name equals no key of the
+    /// table, so the length of a name is not tested before.
     #[inline(always)]
     fn cached_position(&self, key: Key) -> Option<u32>
-        ensures { (name : List ℕ) → IsKeyOf key name → IfSome result (λ p. position_of self.now name ≡ Some p) }
+        ensures short { IfSome result (λ p. key.length ≤ 16) }
+        ensures position { (name : List ℕ) → IsKeyOf key name
+            → IfSome result (λ p. position_of self.now name ≡ Some p) }
     {
         let position = *self.cache.get(key.slot())?;
         let (found_key, _) = self.names.get_index(position as usize)?;
@@ -111,9 +114,12 @@ impl Names {
     /// Returns the position of the name, if it is bound, by the hash table.
     #[inline(never)]
     fn search(&self, name: &str) -> Option<u32>
-        requires { length name.now ≤ 16 }
         ensures { result ≡ position_of self.now name.now }
     {
+        let _names = &self.names; // brings the invariant into the proof
+        if name.len() > 16 {
+            return None;
+        }
         match self.names.get_index_of(&key_of(name)) {
             Some(position) => Some(position as u32),
             None => None,
@@ -125,10 +131,6 @@ impl Names {
     pub fn number_of(&self, name: &str) -> Option<u32>
         ensures { result ≡ position_of self.now name.now }
     {
-        let _names = &self.names; // brings the invariant into the proof
-        if name.len() > 16 {
-            return None;
-        }
         let key = key_of(name);
         match self.cached_position(key) {
             Some(position) => Some(position),
