@@ -92,6 +92,7 @@ impl Mirror {
 
     /// Returns the value of an item and the publication that wrote it. Polls while the item is marked, which takes as long as
     /// a few stores unless the publishing thread is preempted.
+    #[inline]
     fn read(&self, item: u32) -> (u64, i64) {
         let mirrored = &self.items[item as usize];
         let mut rounds = 0_u32;
@@ -104,10 +105,7 @@ impl Mirror {
                 return (before, value);
             }
             rounds += 1;
-            if rounds % 64 == 0 {
-                yield_now();
-            }
-            spin_loop();
+            pause_for_mark(rounds);
         }
     }
 
@@ -136,16 +134,25 @@ impl Mirror {
     }
 }
 
+/// Pauses before the next poll of a marked item.
+#[cold]
+fn pause_for_mark(rounds: u32) {
+    if rounds % 64 == 0 {
+        yield_now();
+    }
+    spin_loop();
+}
+
 /// An item that a body has read or written.
 #[derive(Clone, Copy, Debug)]
 struct Touched {
     item: u32,
-    /// The publication whose value the body has read, if it has read one.
-    version: Option<u64>,
-    /// The index of its read event, or `NONE`.
-    read: u32,
     /// The index of its write event, or `NONE`.
     write: u32,
+    /// The value that the body has read or written last.
+    value: i64,
+    /// The publication whose value the body has read, if it has read one.
+    version: Option<u64>,
 }
 
 /// The reads and writes of a body: of each item the first read, unless it was written before, and the last write, at the
@@ -199,26 +206,42 @@ impl Draft {
         self.moment = mirror.now.0.load(Ordering::Acquire);
     }
 
+    #[inline]
     fn place(&self, item: u32) -> Option<usize> {
         if self.touched.len() <= FEW {
             self.touched.iter().position(|touched| touched.item == item)
         } else {
-            self.places.get(&item).copied()
+            self.place_among_many(item)
         }
     }
 
+    #[inline(never)]
+    fn place_among_many(&self, item: u32) -> Option<usize> {
+        self.places.get(&item).copied()
+    }
+
+    #[inline]
     fn touch(&mut self, touched: Touched) {
-        let place = self.touched.len();
         self.touched.push(touched);
-        if place == FEW {
-            let places = self.touched.iter().enumerate();
-            self.places
-                .extend(places.map(|(n, touched)| (touched.item, n)));
-        } else if place > FEW {
-            self.places.insert(touched.item, place);
+        if self.touched.len() > FEW {
+            self.note_last_place();
         }
     }
 
+    /// Notes the place of the last item, and with the first one above `FEW` those of all.
+    #[inline(never)]
+    fn note_last_place(&mut self) {
+        let first = if self.places.is_empty() {
+            0
+        } else {
+            self.touched.len() - 1
+        };
+        let places = self.touched.iter().enumerate().skip(first);
+        self.places
+            .extend(places.map(|(n, touched)| (touched.item, n)));
+    }
+
+    #[inline]
     fn push(&mut self, kind: u32, item: u32, value: i64) -> u32 {
         let index = self.events.len() as u32;
         self.events.push(sys::Event {
@@ -245,59 +268,67 @@ impl Draft {
         self.overtaken
     }
 
+    #[inline]
     pub(crate) fn read(&mut self, mirror: &Mirror, item: u32) -> Result<i64, Error> {
         if self.overtaken {
             return Err(Error::Overtaken);
         }
         if let Some(place) = self.place(item) {
-            let Touched { read, write, .. } = self.touched[place];
-            let event = if write == NONE { read } else { write };
-            return Ok(self.events[event as usize].value);
+            return Ok(self.touched[place].value);
         }
         loop {
             let (version, value) = mirror.read(item);
             if version <= self.moment {
-                let read = self.push(READ, item, value);
+                self.push(READ, item, value);
                 self.touch(Touched {
                     item,
-                    version: Some(version),
-                    read,
                     write: NONE,
+                    value,
+                    version: Some(version),
                 });
                 return Ok(value);
             }
-            // the value is newer than the earlier reads: are these still the committed values at a later moment?
-            let now = mirror.now.0.load(Ordering::Acquire);
-            if self.is_stale(mirror) {
-                self.overtaken = true;
-                return Err(Error::Overtaken);
-            }
-            self.moment = now;
+            self.advance(mirror)?;
         }
     }
 
+    /// Moves the moment forward, for a value that is newer than the earlier reads, if these are still the committed values.
+    #[inline(never)]
+    fn advance(&mut self, mirror: &Mirror) -> Result<(), Error> {
+        let now = mirror.now.0.load(Ordering::Acquire);
+        if self.is_stale(mirror) {
+            self.overtaken = true;
+            return Err(Error::Overtaken);
+        }
+        self.moment = now;
+        Ok(())
+    }
+
+    #[inline]
     pub(crate) fn write(&mut self, item: u32, value: i64) -> Result<(), Error> {
         if self.overtaken {
             return Err(Error::Overtaken);
         }
         if !(-MAX_VALUE..=MAX_VALUE).contains(&value) {
-            return Err(Refused::of(Refusal::ValueOutOfRange).value(value).into());
+            return Err(out_of_range(value));
         }
-        match self.place(item) {
-            Some(place) if self.touched[place].write != NONE => {
-                let write = self.touched[place].write as usize;
-                self.events[write].value = value;
-            }
-            Some(place) => self.touched[place].write = self.push(WRITE, item, value),
-            None => {
-                let write = self.push(WRITE, item, value);
-                self.touch(Touched {
-                    item,
-                    version: None,
-                    read: NONE,
-                    write,
-                });
-            }
+        let Some(place) = self.place(item) else {
+            let write = self.push(WRITE, item, value);
+            self.touch(Touched {
+                item,
+                write,
+                value,
+                version: None,
+            });
+            return Ok(());
+        };
+        let touched = &mut self.touched[place];
+        touched.value = value;
+        if touched.write == NONE {
+            touched.write = self.events.len() as u32;
+            self.push(WRITE, item, value);
+        } else {
+            self.events[touched.write as usize].value = value;
         }
         Ok(())
     }
@@ -323,10 +354,13 @@ impl Draft {
     /// Checks that all events have a reply, and each the one that the body saw.
     pub(crate) fn judge(&self, answered: usize) -> Result<(), Misfit> {
         // the reply of an accepted begin, read or write has the number of its kind
-        let fits = |(event, reply): (&sys::Event, &sys::Reply)| match event.kind {
-            BEGIN_UPDATE => reply.kind == BEGIN_UPDATE && reply.txn == event.txn,
-            READ => reply.kind == READ && reply.value == event.value,
-            kind => reply.kind == kind,
+        let fits = |(event, reply): (&sys::Event, &sys::Reply)| {
+            reply.kind == event.kind
+                && match event.kind {
+                    BEGIN_UPDATE => reply.txn == event.txn,
+                    READ => reply.value == event.value,
+                    _ => true,
+                }
         };
         let mut replies = self.events.iter().zip(&self.replies[..answered]);
         match replies.find(|both| !fits(*both)) {
@@ -340,8 +374,13 @@ impl Draft {
     /// Returns the written items with their last values.
     pub(crate) fn writes(&self) -> impl Iterator<Item = (u32, i64)> + Clone {
         let written = self.touched.iter().filter(|touched| touched.write != NONE);
-        written.map(|touched| (touched.item, self.events[touched.write as usize].value))
+        written.map(|touched| (touched.item, touched.value))
     }
+}
+
+#[cold]
+fn out_of_range(value: i64) -> Error {
+    Refused::of(Refusal::ValueOutOfRange).value(value).into()
 }
 
 /// Returns the event that commits a transaction.

@@ -214,6 +214,7 @@ impl Items {
         self.names.iter().map(String::as_str)
     }
 
+    #[inline(always)]
     fn number(&self, name: &str) -> Option<u32> {
         self.numbers.get(name, &self.names)
     }
@@ -244,6 +245,11 @@ mod sealed {
     impl Sealed for super::Item {}
 }
 
+#[cold]
+fn no_such_item(name: &str) -> Error {
+    Refused::of(Refusal::NoSuchItem).item(name).into()
+}
+
 /// What names an item: its name, or an [`Item`].
 pub trait ItemKey: sealed::Sealed {
     #[doc(hidden)]
@@ -253,11 +259,10 @@ pub trait ItemKey: sealed::Sealed {
 }
 
 impl<T: AsRef<str> + ?Sized> ItemKey for &T {
+    #[inline(always)]
     fn number(&self, items: &Items) -> Result<u32, Error> {
         let name = self.as_ref();
-        items
-            .number(name)
-            .ok_or_else(|| Refused::of(Refusal::NoSuchItem).item(name).into())
+        items.number(name).ok_or_else(|| no_such_item(name))
     }
 
     fn label(&self, _: &Items) -> String {
@@ -266,12 +271,13 @@ impl<T: AsRef<str> + ?Sized> ItemKey for &T {
 }
 
 impl ItemKey for Item {
+    #[inline]
     fn number(&self, items: &Items) -> Result<u32, Error> {
         if self.bank == items.bank {
             return Ok(self.number);
         }
         let other = format!("{} (of another bank)", self.number);
-        Err(Refused::of(Refusal::NoSuchItem).item(other).into())
+        Err(no_such_item(&other))
     }
 
     fn label(&self, items: &Items) -> String {

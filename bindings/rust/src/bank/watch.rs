@@ -71,7 +71,14 @@ impl Watched<'_> {
 
 impl Watch<'_> {
     fn begin<'a>(bank: &'a Bank, options: &'a Options, is_query: bool) -> Watch<'a> {
-        let watched = bank.observing.as_ref().map(|observing| Watched {
+        let has_run = AtomicBool::new(false);
+        let Some(observing) = &bank.observing else {
+            return Watch {
+                watched: None,
+                has_run,
+            };
+        };
+        let watched = Watched {
             observer: &*observing.observer,
             observed: Observed {
                 id: 1 + observing.begun.fetch_add(1, Ordering::Relaxed),
@@ -82,13 +89,11 @@ impl Watch<'_> {
             },
             begun: Instant::now(),
             progress: Mutex::default(),
-        });
-        if let Some(watched) = &watched {
-            watched.observer.begun(&watched.observed);
-        }
+        };
+        watched.observer.begun(&watched.observed);
         Watch {
-            watched,
-            has_run: AtomicBool::new(false),
+            watched: Some(watched),
+            has_run,
         }
     }
 
