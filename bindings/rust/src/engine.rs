@@ -50,6 +50,28 @@ pub struct Engine {
 // SAFETY: only this value refers to the engine's memory, and the library has no thread-local state.
 unsafe impl Send for Engine {}
 
+/// Why an event has not the expected reply.
+#[derive(Debug)]
+pub(crate) enum Misfit {
+    /// It has another one.
+    Differs,
+    /// It is refused.
+    Refused(Refusal),
+    /// It was not executed.
+    Failed(Error),
+}
+
+impl Misfit {
+    #[cold]
+    fn of(status: u32, reply: sys::Reply) -> Misfit {
+        match check(status).map(|()| reply_of(reply)) {
+            Ok(Reply::Refused(reason)) => Misfit::Refused(reason),
+            Ok(_) => Misfit::Differs,
+            Err(error) => Misfit::Failed(error),
+        }
+    }
+}
+
 fn check(status: u32) -> Result<(), Error> {
     match status {
         0 => Ok(()),
@@ -64,7 +86,7 @@ fn check(status: u32) -> Result<(), Error> {
     }
 }
 
-pub(crate) fn refusal_of(reply: sys::Reply) -> Refusal {
+fn refusal_of(reply: sys::Reply) -> Refusal {
     let txn = Txn(reply.txn);
     match reply.refusal {
         1 => Refusal::NoSuchTransaction,
@@ -79,6 +101,19 @@ pub(crate) fn refusal_of(reply: sys::Reply) -> Refusal {
         10 => Refusal::BlockedByImport(txn),
         11 => Refusal::BlockedByExport(txn),
         other => unreachable!("refusal {other}"),
+    }
+}
+
+/// Reports whether `reply_of` returns this reply, which is not a refusal.
+#[inline(always)]
+fn is_reply(reply: sys::Reply, other: Reply) -> bool {
+    match other {
+        Reply::Begun(txn) => reply.kind == 1 && reply.txn == txn.0,
+        Reply::Value(value) => reply.kind == 2 && reply.value == value,
+        Reply::Wrote => reply.kind == 3,
+        Reply::Committed => reply.kind == 4,
+        Reply::Aborted => reply.kind == 5,
+        Reply::Refused(_) => false,
     }
 }
 
@@ -272,16 +307,33 @@ impl Engine {
     /// `HistoryFull`, `NoMemory`: then nothing has changed.
     pub fn step(&mut self, event: Event) -> Result<Reply, Error> {
         let mut reply = sys::Reply::default();
-        let (raw, out) = (&mut self.raw, &mut reply);
-        check(match event {
-            Event::BeginUpdate { limit } => sys::esr_begin_update(raw, limit, out),
-            Event::BeginQuery { limit, strict } => sys::esr_begin_query(raw, limit, strict, out),
-            Event::Read { txn, item } => sys::esr_read(raw, txn.0, item, out),
-            Event::Write { txn, item, value } => sys::esr_write(raw, txn.0, item, value, out),
-            Event::Commit { txn } => sys::esr_commit(raw, txn.0, out),
-            Event::Abort { txn } => sys::esr_abort(raw, txn.0, out),
-        })?;
+        check(self.call(event, &mut reply))?;
         Ok(reply_of(reply))
+    }
+
+    #[inline(always)]
+    fn call(&mut self, event: Event, reply: &mut sys::Reply) -> u32 {
+        let raw = &mut self.raw;
+        match event {
+            Event::BeginUpdate { limit } => sys::esr_begin_update(raw, limit, reply),
+            Event::BeginQuery { limit, strict } => sys::esr_begin_query(raw, limit, strict, reply),
+            Event::Read { txn, item } => sys::esr_read(raw, txn.0, item, reply),
+            Event::Write { txn, item, value } => sys::esr_write(raw, txn.0, item, value, reply),
+            Event::Commit { txn } => sys::esr_commit(raw, txn.0, reply),
+            Event::Abort { txn } => sys::esr_abort(raw, txn.0, reply),
+        }
+    }
+
+    /// Executes an event, and checks that the reply is the expected one. A bank calls this for each event of most updates, with
+    /// constant kinds of event and reply, so it is compiled into the caller.
+    #[inline(always)]
+    pub(crate) fn expect(&mut self, event: Event, expected: Reply) -> Result<(), Misfit> {
+        let mut reply = sys::Reply::default();
+        let status = self.call(event, &mut reply);
+        if status == 0 && is_reply(reply, expected) {
+            return Ok(());
+        }
+        Err(Misfit::of(status, reply))
     }
 
     fn accept(&mut self, event: Event) -> Result<Reply, Error> {

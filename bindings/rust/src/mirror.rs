@@ -9,7 +9,7 @@
 //! 1. *The engine executes it.* Begin, reads, writes and commit are calls like any others, made under the lock. So
 //!    everything that is promised of the engine's histories is true of these: limits, locks, serializable updates, audits.
 //!    The mirror is not trusted. The commit is sent only if each reply of the engine equals the value that the body saw
-//!    ([`Draft::judge`]); otherwise the transaction is aborted in the same hold, and the body runs again. If an item changed
+//!    ([`Draft::execute`]); otherwise the transaction is aborted in the same hold, and the body runs again. If an item changed
 //!    and changed back, the replies are equal, and that is right: the history has what the body saw. Versions are compared
 //!    before the submission ([`Draft::is_stale`]), which is stricter, only to avoid submissions in vain.
 //! 2. *The body is that transaction.* The run that commits saw exactly the replies in the history, wrote the values in the
@@ -43,10 +43,10 @@
 //! not set, orders that are too weak, values that are published without a commit, an aborted draft that stays active.
 
 use crate::{
-    Error, Refusal,
+    Engine, Error, Event, Refusal, Reply, Txn,
+    engine::Misfit,
     error::Refused,
     sync::{Apart, AtomicI64, AtomicU64, fence, spin_loop, yield_now},
-    sys,
 };
 use std::{cell::Cell, collections::HashMap, sync::atomic::Ordering};
 
@@ -54,12 +54,6 @@ use std::{cell::Cell, collections::HashMap, sync::atomic::Ordering};
 pub(crate) const MAX_VALUE: i64 = 1_000_000_000_000;
 /// Up to this number of items a draft is searched linearly.
 const FEW: usize = 24;
-const BEGIN_UPDATE: u32 = 1;
-const READ: u32 = 2;
-const WRITE: u32 = 3;
-const COMMIT: u32 = 4;
-/// The kind of a refusal among replies.
-const REFUSED: u32 = 6;
 const NONE: u32 = u32::MAX;
 
 /// The committed value of an item.
@@ -147,12 +141,40 @@ fn pause_for_mark(rounds: u32) {
 #[derive(Clone, Copy, Debug)]
 struct Touched {
     item: u32,
-    /// The index of its write event, or `NONE`.
+    /// The index of its write among the operations, or `NONE`.
     write: u32,
     /// The value that the body has read or written last.
     value: i64,
     /// The publication whose value the body has read, if it has read one.
     version: Option<u64>,
+}
+
+/// A read with the value that the body saw, or a write.
+#[derive(Clone, Copy, PartialEq, Eq, Debug)]
+pub(crate) enum Operation {
+    Read { item: u32, value: i64 },
+    Write { item: u32, value: i64 },
+}
+
+impl Operation {
+    pub(crate) fn item(self) -> u32 {
+        match self {
+            Operation::Read { item, .. } | Operation::Write { item, .. } => item,
+        }
+    }
+
+    /// Executes it as an event of a transaction, and checks that the reply is the one that the body saw.
+    #[inline(always)]
+    fn execute(self, engine: &mut Engine, txn: Txn) -> Result<(), Misfit> {
+        match self {
+            Operation::Read { item, value } => {
+                engine.expect(Event::Read { txn, item }, Reply::Value(value))
+            }
+            Operation::Write { item, value } => {
+                engine.expect(Event::Write { txn, item, value }, Reply::Wrote)
+            }
+        }
+    }
 }
 
 /// The reads and writes of a body: of each item the first read, unless it was written before, and the last write, at the
@@ -164,21 +186,8 @@ pub(crate) struct Draft {
     touched: Vec<Touched>,
     /// The indices of the items in `touched`, once there are more than `FEW`.
     places: HashMap<u32, usize>,
-    /// Its begin, and its reads and writes.
-    events: Vec<sys::Event>,
-    replies: Vec<sys::Reply>,
+    operations: Vec<Operation>,
     overtaken: bool,
-}
-
-/// Why a draft does not commit.
-#[derive(Clone, Copy, Debug)]
-pub(crate) enum Misfit {
-    /// The engine answered a read with another value.
-    Stale,
-    /// The engine refused an event.
-    Refused(sys::Reply),
-    /// The engine did not answer all events.
-    Unanswered,
 }
 
 thread_local! {
@@ -200,8 +209,7 @@ impl Draft {
     pub(crate) fn restart(&mut self, mirror: &Mirror) {
         self.touched.clear();
         self.places.clear();
-        self.events.clear();
-        self.push(BEGIN_UPDATE, 0, 0);
+        self.operations.clear();
         self.overtaken = false;
         self.moment = mirror.now.0.load(Ordering::Acquire);
     }
@@ -241,18 +249,6 @@ impl Draft {
             .extend(places.map(|(n, touched)| (touched.item, n)));
     }
 
-    #[inline]
-    fn push(&mut self, kind: u32, item: u32, value: i64) -> u32 {
-        let index = self.events.len() as u32;
-        self.events.push(sys::Event {
-            kind,
-            item,
-            value,
-            ..sys::Event::default()
-        });
-        index
-    }
-
     /// Reports whether a value that the body has read is no longer the committed one, or is about to be replaced.
     pub(crate) fn is_stale(&self, mirror: &Mirror) -> bool {
         self.touched.iter().any(|touched| {
@@ -279,7 +275,7 @@ impl Draft {
         loop {
             let (version, value) = mirror.read(item);
             if version <= self.moment {
-                self.push(READ, item, value);
+                self.operations.push(Operation::Read { item, value });
                 self.touch(Touched {
                     item,
                     write: NONE,
@@ -312,11 +308,13 @@ impl Draft {
         if !(-MAX_VALUE..=MAX_VALUE).contains(&value) {
             return Err(out_of_range(value));
         }
+        let write = Operation::Write { item, value };
+        let next = self.operations.len();
         let Some(place) = self.place(item) else {
-            let write = self.push(WRITE, item, value);
+            self.operations.push(write);
             self.touch(Touched {
                 item,
-                write,
+                write: next as u32,
                 value,
                 version: None,
             });
@@ -325,50 +323,28 @@ impl Draft {
         let touched = &mut self.touched[place];
         touched.value = value;
         if touched.write == NONE {
-            touched.write = self.events.len() as u32;
-            self.push(WRITE, item, value);
+            touched.write = next as u32;
+            self.operations.push(write);
         } else {
-            self.events[touched.write as usize].value = value;
+            self.operations[touched.write as usize] = write;
         }
         Ok(())
     }
 
-    /// Returns the begin and the events, as those of transaction `txn` with a limit, and a buffer for their replies.
-    pub(crate) fn events_of(&mut self, txn: u32, limit: u64) -> (&[sys::Event], &mut [sys::Reply]) {
-        for event in &mut self.events {
-            event.txn = txn;
-        }
-        self.events[0].limit = limit;
-        let count = self.events.len();
-        if self.replies.len() < count {
-            self.replies.resize(count, sys::Reply::default());
-        }
-        (&self.events, &mut self.replies[..count])
-    }
-
     /// Returns the reads and writes.
-    pub(crate) fn events(&self) -> &[sys::Event] {
-        &self.events[1..]
+    pub(crate) fn operations(&self) -> &[Operation] {
+        &self.operations
     }
 
-    /// Checks that all events have a reply, and each the one that the body saw.
-    pub(crate) fn judge(&self, answered: usize) -> Result<(), Misfit> {
-        // the reply of an accepted begin, read or write has the number of its kind
-        let fits = |(event, reply): (&sys::Event, &sys::Reply)| {
-            reply.kind == event.kind
-                && match event.kind {
-                    BEGIN_UPDATE => reply.txn == event.txn,
-                    READ => reply.value == event.value,
-                    _ => true,
-                }
-        };
-        let mut replies = self.events.iter().zip(&self.replies[..answered]);
-        match replies.find(|both| !fits(*both)) {
-            Some((_, reply)) if reply.kind == REFUSED => Err(Misfit::Refused(*reply)),
-            Some(_) => Err(Misfit::Stale),
-            None if answered < self.events.len() => Err(Misfit::Unanswered),
-            None => Ok(()),
+    /// Executes the reads and writes as events of a transaction, up to the first reply that is not the one that the body saw.
+    /// Returns the number of those before.
+    pub(crate) fn execute(&self, engine: &mut Engine, txn: Txn) -> (usize, Result<(), Misfit>) {
+        for (number, operation) in self.operations.iter().enumerate() {
+            if let Err(misfit) = operation.execute(engine, txn) {
+                return (number, Err(misfit));
+            }
         }
+        (self.operations.len(), Ok(()))
     }
 
     /// Returns the written items with their last values.
@@ -381,15 +357,6 @@ impl Draft {
 #[cold]
 fn out_of_range(value: i64) -> Error {
     Refused::of(Refusal::ValueOutOfRange).value(value).into()
-}
-
-/// Returns the event that commits a transaction.
-pub(crate) fn commit_of(txn: u32) -> sys::Event {
-    sys::Event {
-        kind: COMMIT,
-        txn,
-        ..sys::Event::default()
-    }
 }
 
 #[cfg(test)]
@@ -407,7 +374,7 @@ mod tests {
         draft
     }
 
-    /// Events are the first read and the last write of each item, and a body reads its own writes.
+    /// Operations are the first read and the last write of each item, and a body reads its own writes.
     #[test]
     fn a_draft_is_minimal() {
         let mirror = Mirror::of(&[500, 1500]);
@@ -420,9 +387,18 @@ mod tests {
         }
         assert_eq!(draft.write(1, 7), Ok(()));
         assert_eq!(draft.read(&mirror, 1), Ok(7));
-        let kinds = draft.events().iter().map(|e| (e.kind, e.item, e.value));
-        let kinds: Vec<_> = kinds.collect();
-        assert_eq!(kinds, [(READ, 0, 500), (WRITE, 0, 300), (WRITE, 1, 7)]);
+        let operations = [
+            Operation::Read {
+                item: 0,
+                value: 500,
+            },
+            Operation::Write {
+                item: 0,
+                value: 300,
+            },
+            Operation::Write { item: 1, value: 7 },
+        ];
+        assert_eq!(draft.operations(), operations);
         assert_eq!(draft.writes().collect::<Vec<_>>(), [(0, 300), (1, 7)]);
         let refused = draft.write(0, MAX_VALUE + 1).unwrap_err();
         assert_eq!(refused.refusal(), Some(Refusal::ValueOutOfRange));
@@ -441,7 +417,7 @@ mod tests {
         for item in (0..200).rev() {
             assert_eq!(draft.read(&mirror, item), Ok(item.into()));
         }
-        assert_eq!(draft.events().len(), 400);
+        assert_eq!(draft.operations().len(), 400);
     }
 
     /// A newer value is read as long as earlier reads are still current; otherwise the body is stopped.

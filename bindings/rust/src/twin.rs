@@ -28,7 +28,7 @@
 //! take the history from short programs that print it; reading the history back from the first engine, which would hold the
 //! lock as long as an audit does.
 
-use crate::{Engine, Error, Finding, Txn, sys};
+use crate::{Engine, Error, Finding, Txn, mirror::Operation, sys};
 use std::{
     collections::VecDeque,
     mem,
@@ -131,15 +131,22 @@ impl Feed {
         self.end_part();
     }
 
-    pub(crate) fn push_all(&mut self, events: &[sys::Event]) {
+    /// Adds the operations of a transaction.
+    pub(crate) fn push_all(&mut self, txn: Txn, operations: &[Operation]) {
         if self.log != Log::Whole {
             return;
         }
-        self.entries.extend(events.iter().map(|event| Entry {
-            value: event.value,
-            txn: event.txn,
-            item: event.item as u16,
-            kind: event.kind as u8,
+        self.entries.extend(operations.iter().map(|operation| {
+            let (kind, item, value) = match *operation {
+                Operation::Read { item, value } => (2, item, value),
+                Operation::Write { item, value } => (3, item, value),
+            };
+            Entry {
+                value,
+                txn: txn.number(),
+                item: item as u16,
+                kind,
+            }
         }));
         self.end_part();
     }

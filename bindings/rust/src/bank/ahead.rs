@@ -21,10 +21,10 @@
 use super::{Bank, BankUpdate, Mode, state::State, watch::Watch};
 use crate::{
     Error, Event, Options, Refusal, Reply, Txn,
-    engine::refusal_of,
+    engine::Misfit,
     error::Refused,
     gate::{Priority, pause},
-    mirror::{Draft, Misfit, commit_of},
+    mirror::Draft,
     patience::{Rounds, Waiting},
     store::Place,
     sync::Instant,
@@ -96,20 +96,16 @@ impl Bank {
             return Ok(Outcome::Stale);
         };
         self.check_running()?;
-        let mut counts = state.engine.counts();
-        if state.is_nearly_full_at(&counts) {
+        if state.is_nearly_full() {
             drop(state);
             state = self.lock_with_capacity(self.waiting_in(options, waiting), false)?;
-            counts = state.engine.counts();
         }
         // no one else publishes during the hold: a draft that is not stale now has read the engine's committed values
         if draft.is_stale(&self.mirror) {
             state.reserve();
             return Ok(Outcome::Stale);
         }
-        // transactions are numbered in the order of their begins
-        let txn = Txn(counts.transactions as u32 + 1);
-        let outcome = self.submit_in(&mut state, options, txn, draft, attempt)?;
+        let outcome = self.submit_in(&mut state, options, draft, attempt)?;
         if let (Outcome::Committed(_), Some(waiting)) = (&outcome, waiting) {
             state.count_wait(waiting.waited(), attempt.watch);
         }
@@ -120,66 +116,68 @@ impl Bank {
         &self,
         state: &mut State,
         options: &Options,
-        txn: Txn,
-        draft: &mut Draft,
+        draft: &Draft,
         attempt: &Attempt<'_>,
     ) -> Result<Outcome, Error> {
         let limit = options.limit;
-        let (events, replies) = draft.events_of(txn.number(), limit);
-        let (answered, error) = state.engine.replay(events, replies);
-        let judged = draft.judge(answered);
-        // the begin is the first of the events
-        let Some(answered) = answered.checked_sub(1) else {
-            return Err(error.unwrap_or(Error::HistoryFull));
+        let begin = Event::BeginUpdate { limit };
+        let txn = match state.engine.step(begin)? {
+            Reply::Begun(txn) => txn,
+            Reply::Refused(reason) => return Err(Refused::of(reason).limit(limit).into()),
+            other => unreachable!("{other:?}"),
         };
-        if let (0, Err(Misfit::Refused(reply))) = (answered, judged) {
-            return Err(Refused::of(refusal_of(reply)).limit(limit).into());
-        }
-        let ended = match (judged, &error) {
-            (Ok(()), None) => state.engine.step(Event::Commit { txn }),
-            _ => Ok(Reply::Aborted),
-        };
+        let (fitting, executed) = draft.execute(&mut state.engine, txn);
+        state.log(begin, txn, 0);
         if let Some(feed) = &mut state.feed {
-            feed.push(1, txn.number(), 0, limit as i64);
-            let accepted = answered - usize::from(matches!(judged, Err(Misfit::Refused(_))));
-            feed.push_all(&draft.events()[..accepted]);
+            feed.push_all(txn, &draft.operations()[..fitting]);
         }
-        if let Ok(Reply::Committed) = ended {
-            let place = self.enter_store(draft.writes());
-            self.mirror.publish(draft.writes());
-            if let Some(feed) = &mut state.feed {
-                feed.push_all(&[commit_of(txn.number())]);
-            }
-            if let Some(name) = &options.name {
-                state.names.insert(txn.number(), name.clone());
-            }
-            state.metrics.updates += 1;
-            state.metrics.optimistic_updates += 1;
-            state.metrics.reruns += u64::from(attempt.reruns);
-            attempt.watch.charge(|| {
-                let account = state.engine.account(txn);
-                account.map_or(0, |account| account.charged)
-            });
-            attempt.watch.commit(true);
-            return Ok(Outcome::Committed(place));
-        }
+        let commit = Event::Commit { txn };
+        let committed = executed.and_then(|()| state.engine.expect(commit, Reply::Committed));
+        let Err(misfit) = committed else {
+            state.log(commit, txn, 0);
+            return Ok(self.publish(state, options, txn, draft, attempt));
+        };
         // the engine keeps capacity for the end of each active transaction
         let abort = Event::Abort { txn };
         state.engine.step(abort)?;
         state.log(abort, txn, 0);
-        match (judged, error) {
-            (_, Some(Error::NoMemory)) => Err(Error::NoMemory),
-            (Err(Misfit::Refused(reply)), _) => {
-                let reason = refusal_of(reply);
+        match misfit {
+            Misfit::Differs => Ok(Outcome::Stale),
+            Misfit::Failed(Error::HistoryFull) => Ok(Outcome::Blocked(None)),
+            Misfit::Failed(error) => Err(error),
+            Misfit::Refused(reason) => {
                 let refused = attempt.watch.is_on().then(|| {
-                    let item = self.items.name(draft.events()[answered - 1].item);
+                    let item = self.items.name(draft.operations()[fitting].item());
                     Box::new(state.describe_as(options.name.as_deref(), reason, item))
                 });
                 Ok(self.outcome_of(state, reason, refused))
             }
-            (Err(Misfit::Stale), _) => Ok(Outcome::Stale),
-            _ => ended.and(Ok(Outcome::Blocked(None))),
         }
+    }
+
+    /// Publishes a draft that has committed, and counts it.
+    fn publish(
+        &self,
+        state: &mut State,
+        options: &Options,
+        txn: Txn,
+        draft: &Draft,
+        attempt: &Attempt<'_>,
+    ) -> Outcome {
+        let place = self.enter_store(draft.writes());
+        self.mirror.publish(draft.writes());
+        if let Some(name) = &options.name {
+            state.names.insert(txn.number(), name.clone());
+        }
+        state.metrics.updates += 1;
+        state.metrics.optimistic_updates += 1;
+        state.metrics.reruns += u64::from(attempt.reruns);
+        attempt.watch.charge(|| {
+            let account = state.engine.account(txn);
+            account.map_or(0, |account| account.charged)
+        });
+        attempt.watch.commit(true);
+        Outcome::Committed(place)
     }
 
     fn outcome_of(&self, state: &State, reason: Refusal, refused: Option<Box<Refused>>) -> Outcome {
