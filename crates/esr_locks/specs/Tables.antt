@@ -13,9 +13,13 @@ pub record LockTableModel : Type 0 where
   pub spare_by_item : List ℕ
   pub spare_by_transaction : List ℕ
 
+-- the capacity left in the list of items of transaction t, which is all that a write lock needs
+abbrev pub spare_list_capacity : LockTableModel → ℕ → ℕ
+spare_list_capacity table t = slice_index table.spare_by_transaction t
+
 -- the capacity left for locks of transaction t on item x
 abbrev pub spare_lock_capacity : LockTableModel → ℕ → ℕ → ℕ
-spare_lock_capacity table t x = min (slice_index table.spare_by_item x) (slice_index table.spare_by_transaction t)
+spare_lock_capacity table t x = min (slice_index table.spare_by_item x) (spare_list_capacity table t)
 
 -- an item that no transaction has locked
 abbrev pub no_locks : ItemLocks

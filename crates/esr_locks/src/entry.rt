@@ -3,7 +3,7 @@
 //! Queries are counted since a write is charged once for each read. Readers and queries ascend by number, so the
 //! lowest-numbered blocker is the writer or the first reader except the requester.
 
-ghost use Rattle.std.specs.Prelude.{◌≡◌, ℕ, ◌<◌, ◌≤◌, ◌==◌, Bool, false, ◌||◌, ◌&&◌, map, not, All, OnOk, OnErr, unwrap_or, None, if◌then◌else◌, option_map, min, ◌-◌, length};
+ghost use Rattle.std.specs.Prelude.{◌≡◌, ◌≢◌, ℕ, ◌<◌, ◌≤◌, ◌==◌, Bool, false, ◌||◌, ◌&&◌, map, not, All, OnOk, OnErr, unwrap_or, None, if◌then◌else◌, option_map, min, ◌-◌, length};
 ghost use Rattle.esr_base.specs.declared.limits.TheConstants.{MAX_READS};
 ghost use Rattle.esr_history.specs.Ascending.{IsAscendingBy, IsSmallest};
 ghost use Rattle.esr_locks.specs.Modes.{conflicts};
@@ -188,7 +188,7 @@ impl LockEntry {
     /// Adds a lock. Returns whether the transaction held none on the item.
     #[inline(always)]
     pub fn add(&mut self, t: TxnId, mode: Mode) -> bool
-        requires spare_capacity { 0 < self.old.spare_capacity }
+        requires spare_capacity { mode ≢ Mode.Write → 0 < self.old.spare_capacity }
         requires count_within_max { mode ≡ Mode.QueryRead → All (λ r. r.0 ≡ t.0 → r.1 < MAX_READS) self.old.locks.queries }
         ensures locks { self.new.locks ≡ with_lock mode t.0 self.old.locks }
         ensures is_new { result ≡ not (has_lock_in_mode mode self.old.locks t.0) }

@@ -4,15 +4,16 @@
 //! the locks of each item and the spare capacity; the lists by transaction are visible only through `items_of`, which a
 //! commit uses to find the items written.
 //!
-//! `reserve` is called before anything changes. It is inlined, since each read and write calls it and it usually finds
-//! spare capacity. Growth is a separate function, so that the usual path does not pay for its locals.
+//! `reserve`, or for a write `reserve_list`, is called before anything changes. Both are inlined, since each read and write
+//! calls one of them and it usually finds spare capacity. Growth is a separate function, so that the usual path does not pay
+//! for its locals.
 
-ghost use Rattle.std.specs.Prelude.{◌≡◌, ℕ, ◌<◌, ◌≤◌, ◌==◌, [], length, map, All, IfOk, OnOk, OnErr, slice_set, true, if◌then◌else◌, option_map};
+ghost use Rattle.std.specs.Prelude.{◌≡◌, ℕ, ◌<◌, ◌≤◌, ◌≢◌, ◌==◌, [], length, map, All, IfOk, OnOk, OnErr, slice_index, slice_set, true, if◌then◌else◌, option_map};
 ghost use Rattle.std.specs.List.{range_with_len};
 ghost use Rattle.esr_base.specs.declared.limits.TheConstants.{MAX_READS};
 ghost use Rattle.esr_history.specs.Ascending.{IsAscendingBy, IsSmallest};
 ghost use Rattle.esr_locks.specs.LockEntries.{query_and_count, entry_at, items_locked_by, with_lock, has_lock_in_mode, IsLockTable};
-ghost use Rattle.esr_locks.specs.Tables.{no_locks, locks_at, spare_lock_capacity, has_lock, has_update_lock, has_query_lock, contains_item, blocks_read, blocks_write, with_reader, with_writer, with_query_read, released, LockTableModel};
+ghost use Rattle.esr_locks.specs.Tables.{no_locks, locks_at, spare_list_capacity, spare_lock_capacity, has_lock, has_update_lock, has_query_lock, contains_item, blocks_read, blocks_write, with_reader, with_writer, with_query_read, released, LockTableModel};
 
 use crate::entry::LockEntry;
 use crate::lists::QueryReads;
@@ -221,6 +222,22 @@ impl LockTable {
         if self.entries[x.0 as usize].reserve().is_err() {
             return Err(NoMemory);
         }
+        self.reserve_list(t)
+    }
+
+    /// Reserves capacity for one more item in the list of a transaction. That is all that a write lock needs, since an item
+    /// has one writer.
+    ///
+    /// # Errors
+    ///
+    /// `NoMemory` if spare capacity is missing and the allocation fails; the locks are unchanged.
+    #[inline(always)]
+    pub fn reserve_list(&mut self, t: TxnId) -> Result<(), NoMemory>
+        ensures locks { self.new.locks ≡ self.old.locks }
+        ensures items { self.new.spare_by_item ≡ self.old.spare_by_item }
+        ensures ok { OnOk result (0 < spare_list_capacity self.new t.0) }
+        ensures no_capacity { OnErr result (spare_list_capacity self.old t.0 ≡ 0) }
+    {
         if ensure_list(&mut self.by_transaction, self.alloc, t).is_err() {
             return Err(NoMemory);
         }
@@ -234,7 +251,8 @@ impl LockTable {
     #[inline(always)]
     fn add(&mut self, t: TxnId, x: ItemId, mode: Mode)
         requires item { x.0 < length self.old.locks }
-        requires spare_capacity { 0 < spare_lock_capacity self.old t.0 x.0 }
+        requires list_capacity { 0 < spare_list_capacity self.old t.0 }
+        requires item_capacity { mode ≢ Mode.Write → 0 < slice_index self.old.spare_by_item x.0 }
         requires count_within_max { mode ≡ Mode.QueryRead
             → All (λ r. r.0 ≡ t.0 → r.1 < MAX_READS) (locks_at self.old.locks x.0).queries }
         ensures already_locked { has_lock_in_mode mode (locks_at self.old.locks x.0) t.0 ≡ true → self.new.spare_by_transaction ≡ self.old.spare_by_transaction }
@@ -260,7 +278,7 @@ impl LockTable {
     #[inline(always)]
     pub fn add_write(&mut self, t: TxnId, x: ItemId)
         requires item { x.0 < length self.old.locks }
-        requires spare_capacity { 0 < spare_lock_capacity self.old t.0 x.0 }
+        requires spare_capacity { 0 < spare_list_capacity self.old t.0 }
         ensures already_locked { has_update_lock (locks_at self.old.locks x.0) t.0 ≡ true → self.new.spare_by_transaction ≡ self.old.spare_by_transaction }
         ensures locks { self.new.locks ≡ slice_set self.old.locks x.0 (with_writer t.0 (locks_at self.old.locks x.0)) }
     {

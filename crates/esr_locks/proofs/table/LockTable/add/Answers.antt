@@ -1,9 +1,9 @@
-use Rattle.std.proofs.Common.{◌≡◌, ℕ, ◌<◌, ◌∙◌, sym, ap, subst, length, map, true, min, arith, ◌⊎◌, set, slice_index}
+use Rattle.std.proofs.Common.{◌≡◌, ℕ, ◌<◌, ◌∙◌, sym, ap, subst, length, map, true, arith, ◌⊎◌, set, slice_index}
 use Rattle.std.proofs.lemmas.Bool.{not-false}
-use Rattle.std.proofs.lemmas.List.{length-map}
+use Rattle.std.proofs.lemmas.List.{length-map, get_or-map}
 use Rattle.esr_history.specs.ItemLocks.{ItemLocks}
-use Rattle.esr_locks.specs.LockEntries.{LockEntryModel, LockedItemsModel, with_lock, has_lock_in_mode}
-use Rattle.esr_locks.specs.Tables.{LockTableModel, spare_lock_capacity, locks_at, has_lock}
+use Rattle.esr_locks.specs.LockEntries.{LockEntryModel, with_lock, has_lock_in_mode}
+use Rattle.esr_locks.specs.Tables.{LockTableModel, spare_list_capacity, locks_at, has_lock}
 use Rattle.esr_locks.proofs.Tables.{set_entry, IsLockTable-push, IsLockTable-already_locked, has_list, read_list, lock_more, such_has}
 use Rattle.esr_locks.proofs.table.LockTable.add.Goals as goal
 use Rattle.esr_locks.proofs.table.LockTable.add.Goals.{After-add}
@@ -13,9 +13,13 @@ inside c = rw (← length-map c.self.inside.entries.items (λ (r : LockEntryMode
 
 in_list : (c : After-add) → c.args.t.0 < length c.self.inside.by_transaction.items
 in_list c =
-    let spare_capacity : 0 < min (slice_index (map (λ (r : LockEntryModel). r.spare_capacity) c.self.inside.entries.items) c.args.x.0) (slice_index (map (λ (h : LockedItemsModel). h.spare_capacity) c.self.inside.by_transaction.items) c.args.t.0) =
-    subst (λ (v : LockTableModel). 0 < spare_lock_capacity v c.args.t.0 c.args.x.0) (sym c.self.view_is) c.requires.spare_capacity in
-    has_list c.self.inside.by_transaction.items c.args.t.0 (omega arith)
+    has_list c.self.inside.by_transaction.items c.args.t.0 (subst (λ (v : LockTableModel). 0 < spare_list_capacity v c.args.t.0) (sym c.self.view_is) c.requires.list_capacity)
+
+pub add-requires-clause-spare_capacity : goal.add-requires-clause-spare_capacity
+add-requires-clause-spare_capacity c = λ reads.
+    let spare : 0 < slice_index (map (λ (r : LockEntryModel). r.spare_capacity) c.self.inside.entries.items) c.args.x.0 = subst (λ (v : LockTableModel). 0 < slice_index v.spare_by_item c.args.x.0) (sym c.self.view_is) (c.requires.item_capacity reads) in
+    let in_rows : c.args.x.0 < length c.self.inside.entries.items = rw (← length-map c.self.inside.entries.items (λ (r : LockEntryModel). r.locks)) (subst (λ (v : LockTableModel). c.args.x.0 < length v.locks) (sym c.self.view_is) c.requires.item) in
+    subst (λ n. 0 < n) (get_or-map (λ (r : LockEntryModel). r.spare_capacity) c.self.inside.entries.items c.args.x.0 c.index_mut.result.now 0 in_rows ∙ ap (λ (r : LockEntryModel). r.spare_capacity) (sym c.index_mut.ensures.value)) spare
 
 more : (c : After-add) (u : ℕ) → has_lock c.add.new.self.locks u ≡ true → (has_lock c.index_mut.result.now.locks u ≡ true) ⊎ (c.args.t.0 ≡ u)
 more c u is = lock_more c.args.mode c.args.t.0 u c.index_mut.result.now.locks (ap (λ (l : ItemLocks). has_lock l u) (sym c.add.ensures.locks) ∙ is)

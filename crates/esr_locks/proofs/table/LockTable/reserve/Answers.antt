@@ -1,8 +1,8 @@
-use Rattle.std.proofs.Common.{◌≡◌, ◌<◌, ◌∙◌, sym, ap, subst, length, map, set, arith, rules, min, slice_index}
+use Rattle.std.proofs.Common.{◌≡◌, ◌<◌, ◌∙◌, sym, ap, subst, length, map, set, arith, rules, slice_index, Result, Ok, Err, OnOk}
 use Rattle.std.proofs.lemmas.List.{length-map}
-use Rattle.esr_locks.specs.LockEntries.{LockEntryModel, LockedItemsModel}
-use Rattle.esr_locks.specs.Tables.{LockTableModel}
-use Rattle.esr_locks.proofs.Tables.{set_same_entry, capacity_of_row, capacity_of_list}
+use Rattle.esr_locks.specs.LockEntries.{LockEntryModel}
+use Rattle.esr_locks.specs.Tables.{LockTableModel, spare_list_capacity}
+use Rattle.esr_locks.proofs.Tables.{set_same_entry, capacity_of_row}
 use Rattle.esr_locks.proofs.table.LockTable.reserve.Goals as goal
 use Rattle.esr_locks.proofs.table.LockTable.reserve.Goals.{After-reserve}
 
@@ -12,22 +12,18 @@ same c = set_same_entry c.self.inside.entries.items c.args.x.0 c.index_mut.resul
 pub returns-then-is_err-clause-locks : goal.returns-then-is_err-clause-locks
 returns-then-is_err-clause-locks c = same (goal.at.returns-then-is_err-clause-locks c).After-reserve
 
-pub returns-then-is_err-2-clause-locks : goal.returns-then-is_err-2-clause-locks
-returns-then-is_err-2-clause-locks c = same (goal.at.returns-then-is_err-2-clause-locks c).After-reserve
-
-pub returns-then-is_err-3-clause-locks : goal.returns-then-is_err-3-clause-locks
-returns-then-is_err-3-clause-locks c = same (goal.at.returns-then-is_err-3-clause-locks c).After-reserve
-
 pub returns-clause-locks : goal.returns-clause-locks
-returns-clause-locks c = same (goal.at.returns-clause-locks c).After-reserve
+returns-clause-locks c = c.reserve_list.ensures.locks ∙ same (goal.at.returns-clause-locks c).After-reserve
+
+-- where a reservation in the list succeeds
+if_reserved : {T E P Q : Type 0} (result : Result T E) → (P → Q) → OnOk result P → OnOk result Q
+if_reserved (Ok x) follows holds = follows holds
+if_reserved (Err e) follows holds = holds
 
 pub returns-clause-ok : goal.returns-clause-ok
 returns-clause-ok c =
     let inside : c.args.x.0 < length c.self.inside.entries.items = rw (← length-map c.self.inside.entries.items (λ (r : LockEntryModel). r.locks)) (subst (λ (v : LockTableModel). c.args.x.0 < length v.locks) (sym c.self.view_is) c.requires) in
-    let in_lists : c.args.t.0 < length c.ensure_list.new.by_transaction.items = search rules in
     let entry : 0 < c.reserve.new.self.spare_capacity = search rules in
-    let list : 0 < c.reserve-2.new.self.spare_capacity = search rules in
-    let a = capacity_of_row c.self.inside.entries.items c.args.x.0 c.reserve.new.self inside in
-    let b = capacity_of_list c.ensure_list.new.by_transaction.items c.args.t.0 c.reserve-2.new.self in_lists in
-    let both : 0 < min (slice_index (map (λ (r : LockEntryModel). r.spare_capacity) (set c.self.inside.entries.items c.args.x.0 c.reserve.new.self)) c.args.x.0) (slice_index (map (λ (h : LockedItemsModel). h.spare_capacity) (set c.ensure_list.new.by_transaction.items c.args.t.0 c.reserve-2.new.self)) c.args.t.0) = rw (a, b) (omega arith) in
-    both
+    let row = capacity_of_row c.self.inside.entries.items c.args.x.0 c.reserve.new.self inside in
+    let item : 0 < slice_index c.reserve_list.new.self.spare_by_item c.args.x.0 = rw (c.reserve_list.ensures.items, row) entry in
+    if_reserved c.reserve_list.result (λ (list : 0 < spare_list_capacity c.reserve_list.new.self c.args.t.0). omega (arith, item, list)) c.reserve_list.ensures.ok
