@@ -13,8 +13,11 @@
 //! the number of arcs to it.
 //!
 //! The bounds stay valid since a distance never falls. The sweep only removes targets. A path goes along arcs on which the
-//! distance falls by one, so the arcs that it opens lead from a smaller distance to a larger one. No contract constrains the
-//! amounts, so an invalid bound could only make a path longer, or leave an excess where it is.
+//! distance falls by one, so the arcs that it opens lead from a smaller distance to a larger one. If a search continues after a
+//! path, the opened arcs can lead from an update whose scan has passed them. The bound of that update has to take them into
+//! account (`note_opened_arcs`). Otherwise the update can become dead although a path leads from it to a target, its excess stays
+//! where it is, and the streaming audit finds no answer. No contract constrains the amounts, so an invalid bound could only make
+//! a path longer, or leave an excess where it is.
 //!
 //! The updates that a search has reached and not yet expanded are in one stack for each bound of the whole path. If an update
 //! leads to one with the same bound of the whole path, the search continues there, and returns to the rest of the arcs only if
@@ -345,6 +348,25 @@ impl SearchState {
         }
     }
 
+    /// Lowers the bounds of the updates on the path to a reached update: the path has opened an arc from each of them to the one
+    /// before it.
+    fn note_opened_arcs(&mut self, amounts: &ProposedAmounts, end: u16) {
+        let mut entry = end;
+        for _ in 0..self.frontier.len() {
+            let Some(reached) = self.frontier.get(entry) else {
+                return;
+            };
+            let Some(previous) = self.frontier.get(reached.predecessor) else {
+                return;
+            };
+            let bound = self.labels.bound(previous.update);
+            let bound = bound_now(amounts, previous.update, bound);
+            self.frontier
+                .set_place(entry, reached.place as usize, reached.low.min(bound));
+            entry = reached.predecessor;
+        }
+    }
+
     /// Moves an amount along the path to a target, which the `j`-th version of a reached update overwrites: as much as the path and
     /// the target can take, at most `excess`.
     fn route<M: Metric>(
@@ -417,6 +439,7 @@ impl SearchState {
                         self.frontier.clear();
                         return Ok(left);
                     }
+                    self.note_opened_arcs(amounts, entry);
                 }
             }
         }
