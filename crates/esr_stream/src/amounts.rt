@@ -136,7 +136,9 @@ pub struct ProposedAmounts {
     /// For each update that the sweep has passed, the number of targets that it overwrites: versions that the sweep has not passed
     /// and that have residual capacity.
     targets: Vec<u16>,
-    /// The reads of the updates.
+    /// Whether an update reads.
+    has_reads: bool,
+    /// The reads of the updates, none before `list_reads`.
     pub reads: UpdateReads,
 }
 
@@ -187,6 +189,7 @@ impl ProposedAmounts {
             starts: Vec::with_capacity(alloc, query.update_count().saturating_add(1))?,
             current: Vec::with_capacity(alloc, items)?,
             targets: vec![in alloc; 0; query.update_count()]?,
+            has_reads: false,
             reads: UpdateReads::new(alloc),
         };
         for x in 0..query.items() {
@@ -303,10 +306,9 @@ impl ProposedAmounts {
         )
     }
 
-    /// Appends a read, which the update at the position `update` makes of the current version of an item.
-    fn push_read(&mut self, x: ItemId, update: u16, id: u32) -> Result<(), AllocError> {
-        let current = self.current_version(x);
-        self.reads.push(update, current.neighbor, current.id, id)?;
+    /// Appends a read.
+    fn push_read(&mut self) -> Result<(), AllocError> {
+        self.has_reads = true;
         self.push_version(NONE, NOBODY, OFFSET)
     }
 
@@ -322,14 +324,13 @@ impl ProposedAmounts {
     {
         let first_version = to_u32_or_max(self.versions.len());
         self.starts.push(first_version)?;
-        self.reads.begin_update()?;
         let mut id = first_version;
         for access in accesses {
             if access.writes {
                 let cost = query.cost(access.item, access.value);
                 self.push_write(access.item, cost, update, first_version, id)?;
             } else {
-                self.push_read(access.item, update, id)?;
+                self.push_read()?;
             }
             id = id.saturating_add(1);
         }
@@ -337,10 +338,9 @@ impl ProposedAmounts {
     }
 
     /// Ends the list of versions, and sets the amount of the last version of each item to its cost.
-    pub fn init_amounts(&mut self, alloc: Global) -> Result<(), AllocError> {
+    pub fn init_amounts(&mut self) -> Result<(), AllocError> {
         let end = to_u32_or_max(self.versions.len());
         self.starts.push(end)?;
-        self.reads.link(alloc, self.versions.len())?;
         for x in 0..self.current.len() {
             let current = self.current[x];
             self.current[x] = CurrentVersion {
@@ -349,6 +349,19 @@ impl ProposedAmounts {
                 neighbor: NOBODY,
                 ..current
             };
+        }
+        Ok(())
+    }
+
+    /// Lists the reads of the updates, if there are any and they are not listed yet. Only searches need them.
+    pub fn list_reads<M: Metric>(
+        &mut self,
+        alloc: Global,
+        query: &AuditedQuery<M>,
+        buffer: &mut Vec<Access>,
+    ) -> Result<(), AllocError> {
+        if self.has_reads && self.reads.is_empty() {
+            self.reads = UpdateReads::of(alloc, query, &self.starts, self.versions.len(), buffer)?;
         }
         Ok(())
     }
@@ -375,18 +388,6 @@ impl ProposedAmounts {
             let version = self.version(read.version);
             let lowered = version.amount.saturating_sub(read.raise);
             self.set_version(read.version, version.with_amount(lowered));
-        }
-    }
-
-    /// Notes for each read of an update that the sweep has passed which update overwrites the version.
-    fn pass_reads(&mut self, accesses: &[Access], update: u16) {
-        let mut r = self.reads.first_of_update(update);
-        for access in accesses {
-            if !access.writes {
-                let overwriter = self.current_version(access.item).neighbor;
-                self.reads.set_overwriter(r, overwriter);
-                r = r.saturating_add(1);
-            }
         }
     }
 
@@ -596,14 +597,12 @@ impl ProposedAmounts {
         let sums = self.sums(accesses, first_version);
         if sums.overwritten_costs <= sums.written_amounts {
             self.fill(accesses, first_version, update);
-            self.pass_reads(accesses, update);
             return sums.written_amounts.saturating_sub(sums.overwritten_costs);
         }
         let offsets = sums.count.saturating_mul(OFFSET);
         let net_amount = sums.written_amounts.saturating_sub(offsets);
         let ratio = ratio_of(net_amount, sums.overwritten_costs.saturating_sub(offsets));
         self.share(accesses, first_version, net_amount, ratio, update);
-        self.pass_reads(accesses, update);
         0
     }
 }

@@ -19,6 +19,7 @@ fn sweep<M: Metric>(
         let accesses = query.accesses(i, &mut buffer)?;
         let excess = amounts.distribute(accesses, update);
         if 0 < excess {
+            amounts.list_reads(alloc, query, &mut buffer)?;
             searches.route_excess(query, amounts, update, excess, &mut buffer)?;
         }
     }
@@ -42,7 +43,7 @@ pub fn propose_amounts<M: Metric>(
         let accesses = query.accesses(i, &mut buffer)?;
         amounts.push_update(query, accesses, to_u16_or_nobody(i))?;
     }
-    amounts.init_amounts(alloc)?;
+    amounts.init_amounts()?;
     sweep(alloc, query, first, &mut amounts)?;
     amounts.store_current();
     amounts.store_reads();

@@ -5,8 +5,13 @@
 //! flow is the *raise* of the amount by the read, and from the overwriter to the reader, whose flow is the *loan*. A version that
 //! no update overwrites has no second arc, and an opening value has no first one.
 //!
-//! The reads are in a separate table, in commit order, so updates that only write pay nothing for them.
-use crate::amounts::{NOBODY, NONE, elements_of};
+//! The reads are in a separate table, in commit order, so updates that only write pay nothing for them. It is filled when the
+//! first search starts: without an excess, no read has a raise or a loan. Rejected: to fill it while the versions are listed, which
+//! makes the audits of the load `few` of `bench/audit` take 1.5 times the time.
+use crate::amounts::{NOBODY, NONE, elements_of, to_u16_or_nobody};
+use crate::query::AuditedQuery;
+use esr_items::Metric;
+use esr_order::Access;
 use std::alloc::{AllocError, Global};
 
 /// A read of a version by an update.
@@ -26,9 +31,18 @@ pub struct UpdateRead {
     pub reader: u16,
     /// The position in commit order of the update that wrote the version; `NOBODY` for an opening value.
     pub writer: u16,
-    /// The position in commit order of the update that overwrites the version, once the sweep has passed the reader; `NOBODY` if
-    /// none does.
+    /// The position in commit order of the update that overwrites the version; `NOBODY` if none does.
     pub overwriter: u16,
+}
+
+/// The current version of an item while the reads are listed.
+#[derive(Clone, Copy)]
+struct CurrentVersion {
+    id: u32,
+    /// The index of the last read of it, or `NONE`.
+    last_read: u32,
+    /// The position in commit order of its writer; `NOBODY` for an opening value.
+    writer: u16,
 }
 
 /// The reads of the updates in commit order.
@@ -37,7 +51,7 @@ pub struct UpdateReads {
     reads: Vec<UpdateRead>,
     /// The index of the first read of each update, and the end of the last update's reads.
     starts: Vec<u32>,
-    /// For each version, the index of a read of it, or `NONE`. Empty if no update reads.
+    /// For each version, the index of the last read of it, or `NONE`. Empty before the reads are listed.
     first_of_version: Vec<u32>,
 }
 
@@ -51,49 +65,108 @@ impl UpdateReads {
         }
     }
 
-    /// Begins the reads of the next update.
-    pub fn begin_update(&mut self) -> Result<(), AllocError> {
+    /// Returns the reads of the updates. `first_versions` has the id of the first version of each update, and `versions` is the
+    /// number of versions.
+    pub fn of<M: Metric>(
+        alloc: Global,
+        query: &AuditedQuery<M>,
+        first_versions: &[u32],
+        versions: usize,
+        buffer: &mut Vec<Access>,
+    ) -> Result<UpdateReads, AllocError> {
+        let mut reads = UpdateReads {
+            reads: Vec::new(alloc),
+            starts: Vec::with_capacity(alloc, query.update_count().saturating_add(1))?,
+            first_of_version: vec![in alloc; NONE; versions]?,
+        };
+        let mut current = opening_versions(alloc, query.items())?;
+        for i in 0..query.update_count() {
+            let accesses = query.accesses(i, buffer)?;
+            let first_version = first_versions.get(i).copied().unwrap_or(NONE);
+            reads.push_update(&mut current, accesses, to_u16_or_nobody(i), first_version)?;
+        }
+        reads.push_start()?;
+        for version in &current {
+            reads.end_version(*version, NOBODY);
+        }
+        Ok(reads)
+    }
+
+    /// Notes that the reads of the next update begin here.
+    fn push_start(&mut self) -> Result<(), AllocError> {
         let start = u32::try_from(self.reads.len()).unwrap_or(NONE);
         self.starts.push(start)?;
         Ok(())
     }
 
-    /// Appends a read of a version by the update at the position `reader`.
-    pub fn push(
+    /// Appends the reads of an update. `first_version` is the id of its first access.
+    fn push_update(
         &mut self,
-        reader: u16,
-        writer: u16,
-        version: u32,
-        id: u32,
+        current: &mut [CurrentVersion],
+        accesses: &[Access],
+        update: u16,
+        first_version: u32,
     ) -> Result<(), AllocError> {
-        self.reads.push(UpdateRead {
-            raise: 0,
-            loan: 0,
-            version,
-            id,
-            next: NONE,
-            reader,
-            writer,
-            overwriter: NOBODY,
-        })?;
+        self.push_start()?;
+        let mut id = first_version;
+        for access in accesses {
+            let x = access.item.0 as usize;
+            if x < current.len() {
+                let version = current[x];
+                current[x] = if access.writes {
+                    self.end_version(version, update);
+                    CurrentVersion {
+                        id,
+                        last_read: NONE,
+                        writer: update,
+                    }
+                } else {
+                    self.push(version, update, id)?
+                };
+            }
+            id = id.saturating_add(1);
+        }
         Ok(())
     }
 
-    /// Ends the list of reads, and links those of each of the first `versions` versions.
-    pub fn link(&mut self, alloc: Global, versions: usize) -> Result<(), AllocError> {
-        self.begin_update()?;
-        if self.reads.is_empty() {
-            return Ok(());
+    /// Appends a read of a version by the update at the position `reader`. Returns the version with this read.
+    fn push(
+        &mut self,
+        version: CurrentVersion,
+        reader: u16,
+        id: u32,
+    ) -> Result<CurrentVersion, AllocError> {
+        let r = u32::try_from(self.reads.len()).unwrap_or(NONE);
+        self.reads.push(UpdateRead {
+            raise: 0,
+            loan: 0,
+            version: version.id,
+            id,
+            next: version.last_read,
+            reader,
+            writer: version.writer,
+            overwriter: NOBODY,
+        })?;
+        Ok(CurrentVersion {
+            last_read: r,
+            ..version
+        })
+    }
+
+    /// Notes the reads of a version for its id, and for each of them the update that overwrites the version.
+    fn end_version(&mut self, version: CurrentVersion, overwriter: u16) {
+        let id = version.id as usize;
+        if id < self.first_of_version.len() {
+            self.first_of_version[id] = version.last_read;
         }
-        self.first_of_version = vec![in alloc; NONE; versions]?;
-        for r in 0..self.reads.len() {
-            let version = self.reads[r].version as usize;
-            if version < self.first_of_version.len() {
-                self.reads[r].next = self.first_of_version[version];
-                self.first_of_version[version] = u32::try_from(r).unwrap_or(NONE);
+        let mut r = version.last_read as usize;
+        for _ in 0..self.reads.len() {
+            if self.reads.len() <= r {
+                return;
             }
+            self.reads[r].overwriter = overwriter;
+            r = self.reads[r].next as usize;
         }
-        Ok(())
     }
 
     /// Returns the number of reads.
@@ -101,7 +174,7 @@ impl UpdateReads {
         self.reads.len()
     }
 
-    /// Returns whether no update reads.
+    /// Returns whether there are no reads.
     pub fn is_empty(&self) -> bool {
         self.reads.is_empty()
     }
@@ -132,14 +205,6 @@ impl UpdateReads {
     /// Returns the index of the next read of the same version.
     pub fn next_of(&self, read: UpdateRead) -> u32 {
         read.next
-    }
-
-    /// Sets the update that overwrites the version of a read.
-    pub fn set_overwriter(&mut self, r: u32, overwriter: u16) {
-        let r = r as usize;
-        if r < self.reads.len() {
-            self.reads[r].overwriter = overwriter;
-        }
     }
 
     /// Adds to the raise by a read.
@@ -173,4 +238,17 @@ impl UpdateReads {
             self.reads[r].loan = self.reads[r].loan.saturating_sub(less);
         }
     }
+}
+
+/// Returns the versions of the items before all updates.
+fn opening_versions(alloc: Global, items: u32) -> Result<Vec<CurrentVersion>, AllocError> {
+    let mut versions = Vec::with_capacity(alloc, items as usize)?;
+    for id in 0..items {
+        versions.push(CurrentVersion {
+            id,
+            last_read: NONE,
+            writer: NOBODY,
+        })?;
+    }
+    Ok(versions)
 }
