@@ -46,6 +46,18 @@ worth_is (a ∷ b ∷ c ∷ d ∷ e ∷ f ∷ []) l s = absurd (omega (arith, l)
 worth_is (a ∷ b ∷ c ∷ d ∷ e ∷ f ∷ g ∷ []) l s = absurd (omega (arith, l))
 worth_is (a ∷ b ∷ c ∷ d ∷ e ∷ f ∷ g ∷ h ∷ i ∷ v) l s = absurd (omega (arith, l))
 
+pub worth_small : (v : List ℕ) → length v ≡ 8 → AllByRecursion (λ d. d < 10) v → worth v < 10 ^ 8
+worth_small (a ∷ b ∷ c ∷ d ∷ e ∷ f ∷ g ∷ h ∷ []) l s = omega (arith, s.0, s.1.0, s.1.1.0, s.1.1.1.0, s.1.1.1.1.0, s.1.1.1.1.1.0, s.1.1.1.1.1.1.0, s.1.1.1.1.1.1.1.0)
+worth_small [] l s = absurd (omega (arith, l))
+worth_small (a ∷ []) l s = absurd (omega (arith, l))
+worth_small (a ∷ b ∷ []) l s = absurd (omega (arith, l))
+worth_small (a ∷ b ∷ c ∷ []) l s = absurd (omega (arith, l))
+worth_small (a ∷ b ∷ c ∷ d ∷ []) l s = absurd (omega (arith, l))
+worth_small (a ∷ b ∷ c ∷ d ∷ e ∷ []) l s = absurd (omega (arith, l))
+worth_small (a ∷ b ∷ c ∷ d ∷ e ∷ f ∷ []) l s = absurd (omega (arith, l))
+worth_small (a ∷ b ∷ c ∷ d ∷ e ∷ f ∷ g ∷ []) l s = absurd (omega (arith, l))
+worth_small (a ∷ b ∷ c ∷ d ∷ e ∷ f ∷ g ∷ h ∷ i ∷ v) l s = absurd (omega (arith, l))
+
 -- 0 in place of the bytes before the number
 zeros : ℕ → List ℕ
 zeros n = replicate n 0
@@ -96,6 +108,16 @@ worth_of n (x ∷ xs) bytes digits =
     let ten : 10 ^ length (x ∷ xs) ≡ 10 * 10 ^ length xs = pow-succ' 10 (length xs) in
     rw (long, ten, ← low x (bytes 0).fits parts.0) (more ∙ one_more (10 ^ length xs) n (x - 48) (worth (map digit_of xs)))
 
+nothing : (t w : ℕ) → 0 * t + w ≡ w
+nothing t w = omega arith
+
+-- the value of eight digits after a value
+pub value_after : (n : ℕ) (eight : List ℕ) → AreBytes eight → length eight ≡ 8 → all_ascii_digits eight ≡ true → value_from n eight ≡ n * 10 ^ 8 + value_from 0 eight
+value_after n eight bytes long digits =
+    let power : 10 ^ length eight ≡ 10 ^ 8 = ap (λ k. 10 ^ k) long in
+    let one : value_from n eight ≡ n * 10 ^ 8 + worth (map digit_of eight) = worth_of n eight bytes digits ∙ ap (λ p. n * p + worth (map digit_of eight)) power in
+    one ∙ ap (λ w. n * 10 ^ 8 + w) (sym (worth_of 0 eight bytes digits ∙ nothing (10 ^ length eight) (worth (map digit_of eight))))
+
 abbrev pub is_not_below : ℕ → Bool
 is_not_below d = not (nat_lt d 10)
 
@@ -116,9 +138,6 @@ some_above (x ∷ xs) h = elim (cases_Bool (nat_lt x 10)) [
   | inl below ↦ rw below (some_above xs (λ e. h (rw (below, e) refl)))
   | inr above ↦ rw above refl
 ]
-
-nothing : (t w : ℕ) → 0 * t + w ≡ w
-nothing t w = omega arith
 
 -- the last n bytes of a text that ends with a word
 pub last_of : (n : ℕ) (text front word : List ℕ) → text ≡ front ++ word → n ≤ length text → length word ≤ n

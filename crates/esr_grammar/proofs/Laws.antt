@@ -1,5 +1,5 @@
 -- Numbers and words, and how they are read.
-use Rattle.std.proofs.Common.{◌≡◌, ℕ, zero, suc, ◌<◌, ◌≤◌, ◌^◌, ℤ, pos, negsuc, nat_abs, List, [], ◌∷◌, ◌++◌, ◌+◌, ◌*◌, ◌-◌, inl, inr, IfSome, IfNone, true, false, length, take, get_or, refl, sym, ◌∙◌, ap, arith, rules, nat_lt, nat_eq, Some, None, Option, option_map, option_and_then, decimal, lt-ltb, ltb-true, eqb-true}
+use Rattle.std.proofs.Common.{◌≡◌, ℕ, zero, suc, ◌<◌, ◌≤◌, ◌^◌, ℤ, pos, negsuc, nat_abs, List, [], ◌∷◌, ◌++◌, ◌+◌, ◌*◌, ◌-◌, inl, inr, IfSome, IfNone, true, false, Bool, ◌&&◌, length, take, drop, get_or, refl, sym, subst, ◌∙◌, ap, ap₂, arith, rules, nat_lt, nat_eq, Some, None, Option, option_map, option_and_then, decimal, lt-ltb, ltb-true, eqb-true}
 use Rattle.std.specs.List.{AllByRecursion, join_with_byte}
 use Rattle.std.specs.Str.{bytes_eq, all_ascii_digits}
 use Rattle.std.specs.Char.{is_ascii_digit}
@@ -9,7 +9,7 @@ use Rattle.std.proofs.lemmas.List.Splits.{slice_split_at, slice_split_none}
 use Rattle.std.proofs.lemmas.Slice.Eq.{bytes_eq-Decides}
 use Rattle.std.proofs.lemmas.Str.Parse.{IsNumeralModel, numerals_by_fold}
 use Rattle.std.proofs.lemmas.Fmt.{digits_value-decimal, digits_decimal, decimal_nonempty, decimal-digits_value, first_decimal, length-decimal-le}
-use Rattle.std.proofs.lemmas.List.{take_more, take_all}
+use Rattle.std.proofs.lemmas.List.{take_more, take_all, take-append-drop}
 use Rattle.std.proofs.lemmas.Option.{cond_some}
 use Rattle.std.proofs.Math.Nat.{pow-succ', pow-le-pow_right}
 use Rattle.esr_grammar.specs.Command.{IsPlainWord, IsInt, IsLimit, words_of, is_space, number_below, value_from, int_of, limit_in, minus}
@@ -144,8 +144,85 @@ fits i value small count_within_max =
     omega (arith, small, upper_bound)
 
 -- after the last digit
-pub all_read : (cs : List ℕ) (i value : ℕ) → IsValueOf cs i value → length cs ≤ i → i ≤ length cs → length cs ≤ 19 → (value ≡ value_from 0 cs) × (value < 10 ^ 19) × (all_ascii_digits cs ≡ true)
-all_read cs i value so_far end within count_within_max = grind (arith, take_all i cs end, pow-le-pow_right)
+pub all_read : (cs : List ℕ) (i value : ℕ) → IsValueOf cs i value → length cs ≤ i → i ≤ length cs → (value ≡ value_from 0 cs) × (value < 10 ^ length cs) × (all_ascii_digits cs ≡ true)
+all_read cs i value so_far end within =
+    let same : i ≡ length cs = omega (arith, end, within) in
+    let whole : take i cs ≡ cs = take_all i cs end in
+    (so_far.value_is ∙ ap (value_from 0) whole, subst (λ k. value < 10 ^ k) same so_far.small, sym (ap all_ascii_digits whole) ∙ so_far.digits)
+
+-- digits after digits
+value_joined : (n : ℕ) (front rest : List ℕ) → value_from n (front ++ rest) ≡ value_from (value_from n front) rest
+value_joined n [] rest = refl
+value_joined n (c ∷ cs) rest = value_joined (10 * n + (c - 48)) cs rest
+
+associated : (u v w : Bool) → (u && (v && w)) ≡ ((u && v) && w)
+associated true v w = refl
+associated false v w = refl
+
+digits_joined : (front rest : List ℕ) → all_ascii_digits (front ++ rest) ≡ (all_ascii_digits front && all_ascii_digits rest)
+digits_joined [] rest = refl
+digits_joined (c ∷ cs) rest = ap (λ v. is_ascii_digit c && v) (digits_joined cs rest) ∙ associated (is_ascii_digit c) (all_ascii_digits cs) (all_ascii_digits rest)
+
+-- the parts of a number of which the last two have eight digits
+pub value_of_three : (number front last middle end : List ℕ) → number ≡ front ++ last → last ≡ middle ++ end → value_from 0 number ≡ value_from (value_from (value_from 0 front) middle) end
+value_of_three number front last middle end one two =
+    ap (value_from 0) one ∙ value_joined 0 front last ∙ ap (value_from (value_from 0 front)) two ∙ value_joined (value_from 0 front) middle end
+
+pub digits_of_three : (number front last middle end : List ℕ) → number ≡ front ++ last → last ≡ middle ++ end
+    → all_ascii_digits number ≡ (all_ascii_digits front && (all_ascii_digits middle && all_ascii_digits end))
+digits_of_three number front last middle end one two =
+    ap all_ascii_digits one ∙ digits_joined front last ∙ ap (λ v. all_ascii_digits front && v) (ap all_ascii_digits two ∙ digits_joined middle end)
+
+-- the two parts of bytes that were split
+pub parted : (n : ℕ) (bytes front rest : List ℕ) → front ≡ take n bytes → rest ≡ drop n bytes → bytes ≡ front ++ rest
+parted n bytes front rest one two = sym (take-append-drop n bytes) ∙ ap₂ (λ a b. a ++ b) (sym one) (sym two)
+
+pub otherwise : (r : Option ℕ) (P : Type 0) → P → IfNone r P
+otherwise None P p = p
+otherwise (Some n) P p = tt
+
+pub below_thousand : (cs : List ℕ) (n : ℕ) → length cs ≤ 3 → n < 10 ^ length cs → n + 1 ≤ 10 ^ 3
+below_thousand cs n few small =
+    let upper_bound : 10 ^ length cs ≤ 10 ^ 3 = pow-le-pow_right (omega arith) few in
+    omega (arith, small, upper_bound)
+
+pub long_found : (number front last middle end : List ℕ) (high next : ℕ) (r : Option ℕ) → number ≡ front ++ last → last ≡ middle ++ end → high + 1 ≤ 10 ^ 3
+    → (high ≡ value_from 0 front) × (all_ascii_digits front ≡ true)
+    → (next ≡ value_from high middle) × (next < (high + 1) * 10 ^ 8) × (all_ascii_digits middle ≡ true)
+    → IfSome r (λ n. (n ≡ value_from next end) × (n < (next + 1) * 10 ^ 8) × (all_ascii_digits end ≡ true))
+    → IfSome r (λ n. (n ≡ value_from 0 number) × (n < 10 ^ 19) × (all_ascii_digits number ≡ true))
+long_found number front last middle end high next None one two few first second third = third
+long_found number front last middle end high next (Some n) one two few first second third =
+    let next_is : next ≡ value_from (value_from 0 front) middle = second.0 ∙ ap (λ k. value_from k middle) first.0 in
+    let value = third.0 ∙ ap (λ k. value_from k end) next_is ∙ sym (value_of_three number front last middle end one two) in
+    let digits : all_ascii_digits number ≡ true =
+    digits_of_three number front last middle end one two ∙ rw (first.1, second.2, third.2) refl in
+    (value, omega (arith, few, second.1, third.1), digits)
+
+-- one of the parts has another byte
+pub no_front : (number front last middle end : List ℕ) → number ≡ front ++ last → last ≡ middle ++ end → all_ascii_digits front ≡ false → all_ascii_digits number ≡ false
+no_front number front last middle end one two other = digits_of_three number front last middle end one two ∙ rw other refl
+
+false_second : (u v : Bool) → (u && (false && v)) ≡ false
+false_second true v = refl
+false_second false v = refl
+
+false_third : (u v : Bool) → (u && (v && false)) ≡ false
+false_third true true = refl
+false_third true false = refl
+false_third false v = refl
+
+pub no_middle : (number front last middle end : List ℕ) → number ≡ front ++ last → last ≡ middle ++ end → all_ascii_digits middle ≡ false → all_ascii_digits number ≡ false
+no_middle number front last middle end one two other =
+    digits_of_three number front last middle end one two ∙ ap (λ v. all_ascii_digits front && (v && all_ascii_digits end)) other ∙ false_second (all_ascii_digits front) (all_ascii_digits end)
+
+pub no_end : (number front last middle end : List ℕ) → number ≡ front ++ last → last ≡ middle ++ end → all_ascii_digits end ≡ false → all_ascii_digits number ≡ false
+no_end number front last middle end one two other =
+    digits_of_three number front last middle end one two ∙ ap (λ v. all_ascii_digits front && (all_ascii_digits middle && v)) other ∙ false_third (all_ascii_digits front) (all_ascii_digits middle)
+
+pub long_none : (number front last middle end : List ℕ) (r : Option ℕ) → number ≡ front ++ last → last ≡ middle ++ end → IfNone r (all_ascii_digits end ≡ false) → IfNone r (all_ascii_digits number ≡ false)
+long_none number front last middle end None one two other = no_end number front last middle end one two other
+long_none number front last middle end (Some n) one two other = other
 
 pub too_long : (word : List ℕ) → 19 < length word → None ≡ limit_in word
 too_long word long = limit_none word (λ n small is. omega (arith, long, ap length is, length-decimal-le 19 n (omega arith) small (omega arith)))

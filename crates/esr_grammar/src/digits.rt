@@ -31,7 +31,8 @@ fn no_digits(digits: u8x8) -> u64
 #[inline(always)]
 fn worth(digits: u8x8) -> u32
     requires { AllByRecursion (λ d. d < 10) digits }
-    ensures { result ≡ worth digits }
+    ensures value { result ≡ worth digits }
+    ensures small { result < 10 ^ 8 }
 {
     let worths = u32x8::from_array([10_000_000, 1_000_000, 100_000, 10_000, 1_000, 100, 10, 1]);
     (digits.cast::<u32>() * worths).reduce_sum()
@@ -43,7 +44,7 @@ pub fn short_value(text: &[u8], number: &[u8]) -> Option<u64>
     requires ends { (front : List ℕ) × (text.now ≡ front ++ number.now) }
     requires long { 8 ≤ length text.now }
     requires short { length number.now ≤ 8 }
-    ensures found { IfSome result (λ n. (n ≡ value_from 0 number.now) × (n < 10 ^ 19)
+    ensures found { IfSome result (λ n. (n ≡ value_from 0 number.now) × (n < 10 ^ 8)
         × (all_ascii_digits number.now ≡ true)) }
     ensures none { IfNone result (all_ascii_digits number.now ≡ false) }
 {

@@ -1,7 +1,7 @@
 //! The words of a line: names, limits and integers, in their one decimal form.
 
 ghost use Rattle.esr_grammar.specs.declared.words.TheConstants.{INT_END};
-ghost use Rattle.std.specs.Prelude.{◌≡◌, ℕ, List, ◌∷◌, ◌++◌, ◌<◌, ◌≤◌, ◌^◌, Option, option_map, length, IfSome, IfNone, IsTrue, true, false};
+ghost use Rattle.std.specs.Prelude.{◌≡◌, ℕ, List, ◌∷◌, ◌++◌, ◌+◌, ◌*◌, ◌<◌, ◌≤◌, ◌^◌, Option, option_map, length, IfSome, IfNone, IsTrue, true, false};
 ghost use Rattle.std.specs.Str.{all_ascii_digits};
 ghost use Rattle.std.specs.List.{position, list_all};
 ghost use Rattle.esr_grammar.specs.Command.{is_letter, is_name_byte, is_name, value_from, number_below, is_space, words_of, words_after, name_of, limit_in, int_of, one_of, two_of, three_of, four_of};
@@ -142,8 +142,54 @@ pub fn name(word: &[u8]) -> Option<&str>
     Some(unsafe { from_utf8_unchecked(word) })
 }
 
-/// Returns the value of up to 19 digits, with which the text ends.
+/// Returns the value of up to 19 digits, one at a time.
 #[tactic(auto, using(crate::proofs::Laws::no_digit))]
+#[inline(always)]
+fn value_by_bytes(digits: &[u8]) -> Option<u64>
+    requires { length digits.now ≤ 19 }
+    ensures found { IfSome result (λ n. (n ≡ value_from 0 digits.now) × (n < 10 ^ length digits.now)
+        × (all_ascii_digits digits.now ≡ true)) }
+    ensures none { IfNone result (all_ascii_digits digits.now ≡ false) }
+{
+    let mut value: u64 = 0;
+    for digit in digits {
+        if !digit.is_ascii_digit() {
+            return None;
+        }
+        value = 10 * value + u64::from(*digit - b'0');
+    }
+    Some(value)
+}
+
+/// Returns the value of digits, given eight of them and the value of those before.
+#[inline(always)]
+fn with_eight(value: u64, eight: &[u8]) -> Option<u64>
+    requires long { length eight.now ≡ 8 }
+    requires small { value < 10 ^ 11 }
+    ensures found { IfSome result (λ n. (n ≡ value_from value eight.now) × (n < (value + 1) * 10 ^ 8)
+        × (all_ascii_digits eight.now ≡ true)) }
+    ensures none { IfNone result (all_ascii_digits eight.now ≡ false) }
+{
+    let low = short_value(eight, eight)?;
+    Some(value * 100_000_000 + low)
+}
+
+/// Returns the value of 17 to 19 digits, the last 16 in two blocks of eight.
+#[inline(never)]
+fn long_value(digits: &[u8]) -> Option<u64>
+    requires { (16 < length digits.now) × (length digits.now ≤ 19) }
+    ensures found { IfSome result (λ n. (n ≡ value_from 0 digits.now) × (n < 10 ^ 19)
+        × (all_ascii_digits digits.now ≡ true)) }
+    ensures none { IfNone result (all_ascii_digits digits.now ≡ false) }
+{
+    let (front, last) = digits.split_at(digits.len() - 16);
+    let (middle, end) = last.split_at(8);
+    let high = value_by_bytes(front)?;
+    let next = with_eight(high, middle)?;
+    with_eight(next, end)
+}
+
+/// Returns the value of up to 19 digits, with which the text ends.
 #[inline(always)]
 fn digits_value(text: &[u8], digits: &[u8]) -> Option<u64>
     requires ends { (front : List ℕ) × (text.now ≡ front ++ digits.now) }
@@ -155,14 +201,10 @@ fn digits_value(text: &[u8], digits: &[u8]) -> Option<u64>
     if digits.len() <= 8 && text.len() >= 8 {
         return short_value(text, digits);
     }
-    let mut value: u64 = 0;
-    for digit in digits {
-        if !digit.is_ascii_digit() {
-            return None;
-        }
-        value = 10 * value + u64::from(*digit - b'0');
+    if digits.len() > 16 {
+        return long_value(digits);
     }
-    Some(value)
+    value_by_bytes(digits)
 }
 
 /// Returns the limit with this decimal form, with which the text ends: digits without leading zeros.

@@ -16,4 +16,4 @@ returns-clause-found c =
     let is = number_in c.args.text.now c.requires.ends.0 c.args.number.now c.type_inv.number c.requires.ends.1 c.requires.long c.requires.short in
     let below = all_below c.padded-digits.result (none_above c.padded-digits.result (sym c.no_digits.ensures ∙ c.if-no_digits-ne0.false)) in
     let digits : all_ascii_digits c.args.number.now ≡ true = sym is.below ∙ ap (list_all (λ d. nat_lt d 10)) (sym c.padded-digits.ensures) ∙ below in
-    (c.from.ensures ∙ c.worth.ensures ∙ ap worth c.padded-digits.ensures ∙ is.value digits, omega (arith, c.from.ensures, c.worth.type_inv), digits)
+    (c.from.ensures ∙ c.worth.ensures.value ∙ ap worth c.padded-digits.ensures ∙ is.value digits, omega (arith, c.from.ensures, c.worth.ensures.small), digits)
