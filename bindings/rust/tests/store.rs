@@ -492,6 +492,8 @@ fn waits<T: Send>(name: &str, call: impl FnOnce(&Bank) -> T + Send) -> T {
     thread::scope(|scope| {
         let ahead = scope.spawn(|| transfer(&bank, 100));
         store.wait_for_writes(1);
+        // its hold of the lock has ended, so bodies see it
+        assert_eq!(bank.metrics().updates, 1, "{name}");
         assert_eq!(values(&bank), [500, 1500, 0], "{name}");
         let behind = scope.spawn(|| {
             let result = call(&bank);
