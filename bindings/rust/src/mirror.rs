@@ -86,7 +86,7 @@ impl Mirror {
 
     /// Returns the value of an item and the publication that wrote it. Polls while the item is marked, which takes as long as
     /// a few stores unless the publishing thread is preempted.
-    #[inline]
+    #[inline(always)]
     fn read(&self, item: u32) -> (u64, i64) {
         let mirrored = &self.items[item as usize];
         let mut rounds = 0_u32;
@@ -179,6 +179,9 @@ impl Operation {
 
 /// The reads and writes of a body: of each item the first read, unless it was written before, and the last write, at the
 /// place of the first.
+///
+/// `read` and `write` are compiled into the calls of a body, of which a transaction makes many. What few of them need is in
+/// functions of its own, so that the others save no registers for it.
 #[derive(Default, Debug)]
 pub(crate) struct Draft {
     /// The publication up to which all reads are of one moment.
@@ -214,7 +217,7 @@ impl Draft {
         self.moment = mirror.now.0.load(Ordering::Acquire);
     }
 
-    #[inline]
+    #[inline(always)]
     fn place(&self, item: u32) -> Option<usize> {
         if self.touched.len() <= FEW {
             self.touched.iter().position(|touched| touched.item == item)
@@ -228,7 +231,7 @@ impl Draft {
         self.places.get(&item).copied()
     }
 
-    #[inline]
+    #[inline(always)]
     fn touch(&mut self, touched: Touched) {
         self.touched.push(touched);
         if self.touched.len() > FEW {
@@ -264,7 +267,7 @@ impl Draft {
         self.overtaken
     }
 
-    #[inline]
+    #[inline(always)]
     pub(crate) fn read(&mut self, mirror: &Mirror, item: u32) -> Result<i64, Error> {
         if self.overtaken {
             return Err(Error::Overtaken);
@@ -300,7 +303,7 @@ impl Draft {
         Ok(())
     }
 
-    #[inline]
+    #[inline(always)]
     pub(crate) fn write(&mut self, item: u32, value: i64) -> Result<(), Error> {
         if self.overtaken {
             return Err(Error::Overtaken);
