@@ -12,7 +12,8 @@
 //! leases of a twentieth of that hardly add to its wait. Moving the data takes about as long as a transaction. So a lease has
 //! time for [`HOLDS`] of them, also with larger transactions or on a slower host.
 //!
-//! Rejected: leases of 100 microseconds for too many threads, which gained nothing, with a higher 99th percentile.
+//! Rejected: leases of 100 microseconds for too many threads, which gained nothing, with a higher 99th percentile; time for 20
+//! holds, which gained at most 1 per cent on a slow host, where the 99.9th percentile of four threads was 1.6 times as long.
 
 use super::{Gate, Kind, State};
 use crate::{sync::nanoseconds, turns};
@@ -25,7 +26,7 @@ const MORE: u64 = 6_000;
 /// The length of a lease if many more threads are busy than there are processors.
 const LONGER: u64 = 50_000;
 /// A lease has time for this number of holds.
-const HOLDS: u64 = 20;
+const HOLDS: u64 = 14;
 /// The length of a lease for that number of holds is at most this.
 const LONGEST: u64 = 100_000;
 /// A reservation that is not used for this time in nanoseconds is taken over.

@@ -258,7 +258,7 @@ fn more_threads_make_leases_longer() {
     let few = [20_000, 20_000, 26_000, 56_000];
     assert_eq!(lengths(&pollers, false, 900), few);
     assert_eq!(lengths(&pollers, true, 900), [50_000; 4]);
-    assert_eq!(lengths(&pollers, false, 3_000), [60_000; 4]);
+    assert_eq!(lengths(&pollers, false, 5_000), [70_000; 4]);
     assert_eq!(lengths(&pollers, true, 30_000), [100_000; 4]);
 }
 
