@@ -180,8 +180,8 @@ impl Operation {
 /// The reads and writes of a body: of each item the first read, unless it was written before, and the last write, at the
 /// place of the first.
 ///
-/// `read` and `write` are compiled into the calls of a body, of which a transaction makes many. What few of them need is in
-/// functions of its own, so that the others save no registers for it.
+/// A transaction makes many calls of `read` and `write`, so they are compiled into their callers. What few calls need is in
+/// separate functions, so that the others save no registers for it.
 #[derive(Default, Debug)]
 pub(crate) struct Draft {
     /// The publication up to which all reads are of one moment.
