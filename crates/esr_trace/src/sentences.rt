@@ -124,7 +124,7 @@ fn push_charges(
         push_number(out, charge.amount)?;
         joint = ", ";
     }
-    push_rest(out, charges.len())
+    push_rest(out, charges.len().saturating_sub(MAX_NAMES))
 }
 
 /// Appends what a charge is.
@@ -440,7 +440,7 @@ fn push_refused(out: &mut String, audited: &Audited<'_>) -> Result<(), AllocErro
     if count == 0 {
         return Ok(());
     }
-    push_rest(out, count)?;
+    push_rest(out, count.saturating_sub(MAX_NAMES))?;
     out.push('.')
 }
 
