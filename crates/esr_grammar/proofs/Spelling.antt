@@ -244,7 +244,7 @@ by_words (k ∷ ws) c e = following k ws c e
 pub read_back : (line : List ℕ) (c : Command) → reading line ≡ Some c → IsSyntaxOf line c
 read_back line c e = grind (arith, by_words (words_of line) c e, join_with_byte-slice_split 32 line)
 
--- ---- a skipped line is no command
+-- ---- a skipped line is not a command
 
 first_byte : (c : Command) → is_skipped (spelling c) ≡ false
 first_byte (item n v) = refl

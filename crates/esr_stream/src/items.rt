@@ -110,8 +110,8 @@ fn has_read_reason(states: &[ItemState], row: &[Access], amounts: &[Version]) ->
     false
 }
 
-/// Returns whether an update is marked: it is already, or every closed set of least cost contains it because of a version that
-/// it overwrites or reads.
+/// Returns whether an update is marked: it is already, or every closed set of the bound's cost contains it because of a version
+/// that it overwrites or reads.
 pub fn is_forced(states: &[ItemState], row: &[Access], amounts: &[Version], marked: bool) -> bool
     ensures stays { marked ≡ true → result ≡ true }
     ensures reason { result ≡ true → (marked ≡ true) ⊎ ((has_write_reason states.now row.now ≡ true)

@@ -1,4 +1,4 @@
-//! The pass: checks the amounts along the updates, and marks updates that every closed set of least cost contains.
+//! The pass: checks the amounts along the updates, and marks updates that every closed set of the bound's cost contains.
 ghost use Rattle.std.specs.Prelude.{◌≡◌, ◌≤◌, ◌<◌, ℕ, Bool, List, IfOk, IfSome, length, map};
 ghost use Rattle.esr_history.specs.Queries.{must};
 ghost use Rattle.esr_stream.specs.Passes.{IsPrefixMarked, AreStates, KeepsEnough, KeepsInvariant, StayMarked};
@@ -67,7 +67,7 @@ fn unmarked_with(unmarked: usize, marked: bool) -> usize {
     }
 }
 
-/// Applies the updates between two positions, and marks each one that every closed set of least cost contains (`is_forced`).
+/// Applies the updates between two positions, and marks each one that every closed set of the bound's cost contains (`is_forced`).
 /// Returns the position where it ends, at `to` or early, or `None` if an update decreases the sum of the amounts less the loans
 /// or if a sum does not fit.
 ///

@@ -1,4 +1,4 @@
-//! Rounds. A round makes a pass, which marks updates that every closed set of least cost contains, and then marks the
+//! Rounds. A round makes a pass, which marks updates that every closed set of the bound's cost contains, and then marks the
 //! predecessors of marked updates. So the marked set is closed after each round. The rounds end when one over all updates adds
 //! no predecessor.
 //!

@@ -15,8 +15,8 @@
 //! The bounds stay valid since a distance never falls. The sweep only removes targets. A path goes along arcs on which the
 //! distance falls by one, so the arcs that it opens lead from a smaller distance to a larger one. If a search continues after a
 //! path, the opened arcs can lead from an update whose scan has passed them. The bound of that update has to take them into
-//! account (`note_opened_arcs`). Otherwise the update can become dead although a path leads from it to a target, its excess stays
-//! where it is, and the streaming audit finds no answer. No contract constrains the amounts, so an invalid bound could only make
+//! account (`note_opened_arcs`). Otherwise the update can become dead although a path leads from it to a target. Then its
+//! excess stays, and the streaming audit finds no answer. No contract constrains the amounts, so an invalid bound could only make
 //! a path longer, or leave an excess where it is.
 //!
 //! The updates that a search has reached and not yet expanded are in one stack for each bound of the whole path. If an update

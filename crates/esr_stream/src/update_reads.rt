@@ -174,7 +174,7 @@ impl UpdateReads {
         self.reads.len()
     }
 
-    /// Returns whether there are no reads.
+    /// Returns whether no update reads, or the reads are not listed.
     pub fn is_empty(&self) -> bool {
         self.reads.is_empty()
     }
