@@ -1,9 +1,9 @@
 //! Readers and writers that fail.
 
 use super::rows::BACK_FLOW;
-use crate::tests::devices::{Way, check_cut, check_narrow, cut_after, narrow_until};
 use esr_bundle::{JudgeFault, Verdict, judge};
 use esr_history::Watched;
+use esr_test_devices::{Way, check_cut, check_narrow, cut_after, narrow_until};
 use std::alloc::Global;
 use std::io;
 use std::io::Read;

@@ -1,9 +1,9 @@
 //! Readers and writers that fail, and readers that do not end.
 
 use super::drive_by;
-use crate::tests::devices::{Way, check_cut, cut_after, narrow_until};
 use esr_drive::DriveFault;
 use esr_history::Watched;
+use esr_test_devices::{Way, check_cut, cut_after, narrow_until};
 use std::io;
 use std::io::Read;
 

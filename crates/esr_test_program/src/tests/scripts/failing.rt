@@ -4,10 +4,10 @@ ghost use Rattle.std.specs.Prelude.{◌≡◌, false};
 ghost use Rattle.esr_base.specs.Watch.{failed};
 
 use super::run_script;
-use crate::tests::devices::{Way, check_cut, check_narrow, cut_after, narrow_until};
 use esr_history::Watched;
 use esr_lint::NoObserver;
 use esr_script::{NoGate, RunFault, audit};
+use esr_test_devices::{Way, check_cut, check_narrow, cut_after, narrow_until};
 use std::alloc::Global;
 use std::io::{Read, Write};
 use std::process::Abort;

@@ -1,4 +1,7 @@
-//! Devices that fail, and the checks of them.
+//! Readers and writers that fail after some calls, and the checks of what a run has read and written by then. The tests of
+//! several crates use them.
+#![tactic(auto)]
+
 ghost use Rattle.std.specs.Prelude.{◌≡◌, false};
 ghost use Rattle.esr_base.specs.Watch.{failed};
 

@@ -3,11 +3,11 @@
 ghost use Rattle.std.specs.Prelude.{◌≡◌, false};
 ghost use Rattle.esr_base.specs.Watch.{failed};
 
-use crate::tests::devices::{Way, check_cut, cut_after, narrow_until};
 use esr_history::Watched;
 use esr_lint::{NoObserver, Notes};
 use esr_picture::{PictureView, PictureWithErrorsView};
 use esr_script::{RunFault, render_query};
+use esr_test_devices::{Way, check_cut, cut_after, narrow_until};
 use std::alloc::{AllocError, Global};
 use std::io::{Read, Write};
 use std::process::Abort;

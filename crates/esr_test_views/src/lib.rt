@@ -1,0 +1,6 @@
+//! Tests of the views of a script: pictures, prose, pages, timelines, trace events and tables. The expected texts are written
+//! by hand, never by the program.
+#![tactic(auto)]
+
+#[cfg(test)]
+mod tests;
