@@ -1,5 +1,6 @@
-//! Lists the items that one transaction has locked, in the order of its locks, for their release. Up to eight are stored
-//! inline.
+//! Lists the items that one transaction has locked, in the order of its locks, for their release. Up to ten are stored
+//! inline: an update of eight items reserves capacity for a ninth when it accesses one of them again, and because of
+//! alignment ten take no more memory than nine.
 
 ghost use Rattle.std.specs.Prelude.{◌≡◌, ◌<◌, [], ◌∷◌, ◌++◌, OnOk, OnErr};
 
@@ -9,10 +10,10 @@ use smallvec::SmallVec;
 use std::alloc::{AllocError, Global};
 use std::marker::Model;
 
-/// The items that a transaction has locked. Up to eight are stored inline, more in an allocation.
+/// The items that a transaction has locked. Up to ten are stored inline, more in an allocation.
 #[derive(Drop)]
 pub struct LockedItems {
-    list: SmallVec<ItemId, 8>,
+    list: SmallVec<ItemId, 10>,
 }
 
 impl Model for LockedItems {
