@@ -128,11 +128,15 @@ impl LockEntry {
         }
     }
 
-    /// Returns the smallest update whose lock on the item conflicts with a lock of `t` in this mode.
+    /// Returns the smallest update whose lock on the item conflicts with a lock of `t` in this mode. Most items have no
+    /// reader, and then the writer is the only candidate, so that no comparison of numbers is needed.
     #[inline(always)]
     pub fn blocking_update(&self, t: TxnId, asked: Mode) -> Option<TxnId>
         ensures { IsSmallest (blocks asked self.now.locks t.0) (option_map (λ u. u.0) result) }
     {
+        if self.readers.is_empty() {
+            return self.blocking_writer(t, asked);
+        }
         smaller_of(
             self.blocking_reader(t, asked),
             self.blocking_writer(t, asked),
