@@ -227,6 +227,14 @@ AreBooks-charged xs total u cs books update queries asc none spare_capacity =
     fitting [] all = tt
     fitting (b ∷ bs) all = (ltb-false (limit_at xs b.0.0) (account_amount xs b.0.0 + b.1) all.0, fitting bs all.1)
 
+pub amount_within : (t : ℕ) (xs : List Account) → AllByRecursion IsWithinLimit xs → account_amount xs t ≤ limit_at xs t
+amount_within t [] all = omega arith
+amount_within t (x ∷ xs) all =
+    elim (cases_Bool (number x == t)) [
+      | inl here ↦ rw here all.0.0
+      | inr away ↦ rw away (amount_within t xs all.1)
+    ]
+
 pub limit_small : (t : ℕ) (xs : List Account) → AllByRecursion IsWithinLimit xs → limit_at xs t < 2 ^ 64
 limit_small t [] all = omega arith
 limit_small t (x ∷ xs) all =

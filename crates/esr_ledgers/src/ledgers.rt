@@ -4,9 +4,9 @@
 //! 128 bits.
 
 ghost use Rattle.std.specs.Prelude.{◌≡◌, ◌+◌, ◌<◌, ◌≤◌, ◌^◌, [], true, false, All, None, Some, IfOk, IfErr, OnOk, OnErr, find, length};
-ghost use Rattle.std.specs.List.{insert};
+ghost use Rattle.std.specs.List.{AllByRecursion, insert};
 ghost use Rattle.esr_history.specs.Ascending.{IsAscendingBy};
-ghost use Rattle.esr_ledgers.specs.Books.{number, is_open, is_open_query, is_open_update, account_amount, new_account, with_account, total_of, would_pass, quote_of, charged_to_queries, charged, AreCharges, imports, exports};
+ghost use Rattle.esr_ledgers.specs.Books.{number, is_open, is_open_query, is_open_update, account_amount, new_account, with_account, total_of, would_pass, quote_of, charged_to_queries, charged, AreCharges, IsWithinLimit, imports, exports};
 
 use crate::account::{Account, find_account, place_of, raise};
 use esr_history::{BeginKind, NoMemory, TxnId};
@@ -44,25 +44,27 @@ impl Model for Ledgers {
     ghost invariant = { λ l. AreBooks l.accounts.items l.total };
 }
 
-/// Returns whether an additional amount would exceed the limit of a transaction.
+/// Returns whether an additional amount would exceed the limit of a transaction. It compares the amount with what is left
+/// of the limit, and is inlined, because for a charge of 64 bits the compiler then compares 64 bits.
+#[inline(always)]
 fn passes(accounts: &[Account], t: TxnId, amount: u128) -> bool
     requires ascending { IsAscendingBy number accounts.now }
+    requires within { AllByRecursion IsWithinLimit accounts.now }
     requires open { is_open accounts.now t.0 ≡ true }
-    requires upper_bound { amount < 2 ^ 127 }
     ensures { result ≡ would_pass accounts.now t.0 amount }
 {
     let account = find_account(accounts, t);
-    u128::from(account.amount) + amount > u128::from(account.limit)
+    amount > u128::from(account.limit - account.amount)
 }
 
 /// Returns the sum of some charges, or else the first whose query's limit would be exceeded.
 fn total_within(accounts: &[Account], charges: &[(TxnId, u64)]) -> Result<u128, (TxnId, u64)>
     requires ascending { IsAscendingBy number accounts.now }
+    requires within { AllByRecursion IsWithinLimit accounts.now }
     requires queries { All (λ c. is_open accounts.now c.0.0 ≡ true) charges.now }
     ensures over { IfErr result (λ c. find (λ c. would_pass accounts.now c.0.0 c.1) charges.now ≡ Some c) }
     ensures none_over { OnOk result (find (λ c. would_pass accounts.now c.0.0 c.1) charges.now ≡ None) }
     ensures sum { IfOk result (λ total. total ≡ total_of charges.now) }
-    ensures upper_bound { IfOk result (λ total. total < 2 ^ 127) }
 {
     let mut total: u128 = 0;
     for charge in charges {
