@@ -120,23 +120,31 @@ fn more_readers_than_a_row_holds_are_in_order(rt: HostRuntime) {
     assert!(rt; locks.may_write(TxnId(11), A) == Some(TxnId(13)));
 }
 
-/// A row holds two queries without an allocation; no clause can state that the third gets one.
+/// A row holds four queries without an allocation; no clause can state that the fifth gets one.
 #[test]
 fn more_queries_than_a_row_holds_are_in_order(rt: HostRuntime) {
     let mut locks = table(&rt, rt.alloc());
-    let q = TxnId(4);
+    let q = TxnId(5);
     let r = TxnId(2);
-    let s = TxnId(3);
+    let s = TxnId(4);
+    let t = TxnId(1);
+    let u = TxnId(3);
     reserve_lock(&rt, &mut locks, q, B);
     locks.add_read_query(q, B);
     reserve_lock(&rt, &mut locks, r, B);
     locks.add_read_query(r, B);
     reserve_lock(&rt, &mut locks, s, B);
     locks.add_read_query(s, B);
+    reserve_lock(&rt, &mut locks, t, B);
+    locks.add_read_query(t, B);
+    reserve_lock(&rt, &mut locks, u, B);
+    locks.add_read_query(u, B);
     locks.release(r);
     assert!(rt;
         locks.query_reads(B)
             == [
+                QueryReads { query: t, count: 1 },
+                QueryReads { query: u, count: 1 },
                 QueryReads { query: s, count: 1 },
                 QueryReads { query: q, count: 1 }
             ]
