@@ -256,12 +256,17 @@ impl<R: MadeWith<Global> + Copy + Drop, const N: usize> AscendingList<R, N> {
         self.elements[self.removed + at] = element;
     }
 
-    /// Removes the element at an index.
+    /// Removes the element at an index. Most lists are short and store no removed element: then nothing is counted, and
+    /// the elements stay at the front.
     #[inline(never)]
     fn remove(&mut self, at: usize)
         requires { at < length self.old.items }
         ensures { self.new.items ≡ remove self.old.items at }
     {
+        if self.removed == 0 && self.elements.len() <= MAX_SHORT {
+            remove_from_short(&mut self.elements, at);
+            return;
+        }
         let removed = remove_lazily(&mut self.elements, self.removed, at);
         self.removed = compact(&mut self.elements, removed);
     }
