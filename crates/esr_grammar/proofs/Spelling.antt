@@ -1,5 +1,5 @@
 -- The text of a command, and the command that is read from it.
-use Rattle.std.proofs.Common.{◌≡◌, ◌↔◌, IsTrue, ℕ, ◌<◌, ◌^◌, ℤ, nat_abs, List, [], ◌∷◌, inl, inr, ◌⊎◌, true, false, not, ◌&&◌, cond, refl, sym, ◌∙◌, ap, subst, arith, nat_eq, Some, None, Option, option_map, option_and_then, codes, decimal}
+use Rattle.std.proofs.Common.{◌≡◌, ◌↔◌, IsTrue, IfSome, ℕ, ◌<◌, ◌^◌, ℤ, nat_abs, List, [], ◌∷◌, inl, inr, ◌⊎◌, true, false, not, ◌&&◌, cond, refl, sym, ◌∙◌, ap, subst, arith, nat_eq, Some, None, Option, option_map, option_and_then, codes, decimal}
 use Rattle.std.specs.List.{AllByRecursion, join_with_byte}
 use Rattle.std.specs.Option.{option_or}
 use Rattle.std.specs.Str.{bytes_eq}
@@ -7,7 +7,8 @@ use Rattle.std.specs.Fmt.{signed_decimal}
 use Rattle.std.proofs.lemmas.List.Elements.{All-nil, All-cons}
 use Rattle.std.proofs.lemmas.List.Splits.{join_with_byte-slice_split}
 use Rattle.std.proofs.lemmas.Slice.Eq.{bytes_eq-Decides}
-use Rattle.esr_grammar.specs.Command.{Command, item, weighted_item, begin_update, begin_query, begin_strict_query, read, write, commit, abort, audit, totals, words, is_name, IsName, IsLimit, IsCommand, IsSyntaxOf, IsPlainWord, words_of, name_of, limit_in, int_of, one_of, two_of, three_of, four_of, both, plain_item_command, weighted_item_command, item_command, plain_begin_command, strict_query_command, begin_command, read_command, write_command, one_name_of, totals_command, command_of, command_by, reading, is_skipped, spelling, command_in, IsReadingOf}
+use Rattle.esr_grammar.specs.Command.{Command, item, weighted_item, begin_update, begin_query, begin_strict_query, read, write, commit, abort, audit, totals, words, is_name, IsName, IsLimit, IsCommand, IsSyntaxOf, IsPlainWord, words_of, name_of, limit_in, int_of, one_of, two_of, three_of, four_of, both, plain_item_command, weighted_item_command, item_command, plain_begin_command, strict_query_command, begin_command, read_command, write_command, one_name_of, totals_command, command_of, command_by, reading, is_skipped, spelling, command_in, view, IsReadingOf}
+use Rattle.esr_grammar.specs.declared.parse.Line.{Line}
 use Rattle.esr_grammar.specs.declared.parse.Parsed.{Parsed}
 use Rattle.esr_grammar.specs.declared.parse.Parsed.TheVariants as parsed
 use Rattle.std.proofs.lemmas.Bool.{cases_Bool, and_parts, not-true, true≢false}
@@ -271,3 +272,9 @@ pub is_command_as_read : (line : List ℕ) (p : Parsed) → IsReadingOf line p �
 is_command_as_read line parsed.Skipped h c = (λ e. cc, λ k. absurd (true≢false (sym h ∙ not_skipped line c k)))
 is_command_as_read line parsed.NotACommand h c = (λ e. cc, λ k. sym h.1 ∙ spelled line c k)
 is_command_as_read line (parsed.Command l) h c = (λ e. read_back line c (h.1 ∙ e), λ k. sym h.1 ∙ spelled line c k)
+
+-- a line that is the text of a command is read as the command
+pub reading_if_some : (line : List ℕ) (found : Option Line) → IfSome found (λ l. IsSyntaxOf line (view l))
+    → IfSome found (λ l. IsReadingOf line (parsed.Command l))
+reading_if_some line (Some l) h = (not_skipped line (view l) h, spelled line (view l) h)
+reading_if_some line None h = tt

@@ -14,5 +14,5 @@ mod words;
 
 pub use limits::{INPUT_ROOM, MAX_LINE_BYTES, MAX_LINES};
 pub use next::{Next, next_line};
-pub use parse::{Line, Parsed, parse_line};
+pub use parse::{Line, Parsed, parse_begin_or_commit, parse_line, parse_read, parse_write};
 pub use words::name;

@@ -4,10 +4,10 @@
 //! spelling and one case in each definition, so no word is optional. Names are text of the line itself; nothing is
 //! allocated.
 
-ghost use Rattle.std.specs.Prelude.{◌≡◌, ◌↔◌, Option, Some, option_map, IsTrue};
+ghost use Rattle.std.specs.Prelude.{◌≡◌, ◌↔◌, Option, Some, IfSome, option_map, IsTrue};
 ghost use Rattle.esr_grammar.specs.Command.{Command, is_skipped, IsSyntaxOf, words_of, words_after, totals_command, plain_item_command, weighted_item_command, item_command, plain_begin_command, strict_query_command, begin_command, read_command, write_command, one_name_command, reading, view, command_in, IsReadingOf};
 
-use crate::quick::quick;
+use crate::quick::{quick, quick_begin_or_commit, quick_read, quick_write};
 use crate::words::{cut_word, four_words, int, limit, name, one_word, three_words, two_words};
 
 /// A command, with its names as text of its line.
@@ -238,6 +238,36 @@ fn other_line(line: &[u8]) -> Parsed<'_>
         Some(line) => Parsed::Command(line),
         None => Parsed::NotACommand,
     }
+}
+
+/// Returns the read, if the line is one in the usual form. For another line, `parse_line` decides.
+#[tactic(auto, using(crate::proofs::Spelling::reading_if_some))]
+#[inline(always)]
+pub fn parse_read(line: &[u8]) -> Option<Line<'_>>
+    ensures read { IfSome result (λ found. IsReadingOf line.now (Parsed.Command found)) }
+    ensures command { IfSome result (λ found. IsSyntaxOf line.now (view found)) }
+{
+    quick_read(line)
+}
+
+/// Returns the write, if the line is one in the usual form. For another line, `parse_line` decides.
+#[tactic(auto, using(crate::proofs::Spelling::reading_if_some))]
+#[inline(always)]
+pub fn parse_write(line: &[u8]) -> Option<Line<'_>>
+    ensures read { IfSome result (λ found. IsReadingOf line.now (Parsed.Command found)) }
+    ensures command { IfSome result (λ found. IsSyntaxOf line.now (view found)) }
+{
+    quick_write(line)
+}
+
+/// Returns the begin or the commit, if the line is one in the usual form. For another line, `parse_line` decides.
+#[tactic(auto, using(crate::proofs::Spelling::reading_if_some))]
+#[inline(always)]
+pub fn parse_begin_or_commit(line: &[u8]) -> Option<Line<'_>>
+    ensures read { IfSome result (λ found. IsReadingOf line.now (Parsed.Command found)) }
+    ensures command { IfSome result (λ found. IsSyntaxOf line.now (view found)) }
+{
+    quick_begin_or_commit(line)
 }
 
 /// Parses a line. Allocates nothing.

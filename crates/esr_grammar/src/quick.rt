@@ -315,9 +315,33 @@ fn read_line<'a>(line: &[u8], bytes: &'a [u8]) -> Option<Line<'a>>
     }
 }
 
-/// Parses a line that is neither a read nor a write.
+/// Returns the read, if the line is one in the usual form.
 #[inline(always)]
-fn other_line(line: &[u8]) -> Option<Line<'_>>
+pub fn quick_read(line: &[u8]) -> Option<Line<'_>>
+    ensures { IfSome result (λ found. IsSyntaxOf line.now (view found)) }
+{
+    let first = line.first_chunk::<4>()?;
+    match u32::from_le_bytes(*first) {
+        READ => read_line(line, &line[4..]),
+        _ => None,
+    }
+}
+
+/// Returns the write, if the line is one in the usual form.
+#[inline(always)]
+pub fn quick_write(line: &[u8]) -> Option<Line<'_>>
+    ensures { IfSome result (λ found. IsSyntaxOf line.now (view found)) }
+{
+    let first = line.first_chunk::<4>()?;
+    match u32::from_le_bytes(*first) {
+        WRIT => write_line(&line[4..]),
+        _ => None,
+    }
+}
+
+/// Returns the begin or the commit, if the line is one in the usual form.
+#[inline(always)]
+pub fn quick_begin_or_commit(line: &[u8]) -> Option<Line<'_>>
     ensures { IfSome result (λ found. IsSyntaxOf line.now (view found)) }
 {
     match line {
@@ -332,10 +356,11 @@ fn other_line(line: &[u8]) -> Option<Line<'_>>
 pub fn quick(line: &[u8]) -> Option<Line<'_>>
     ensures { IfSome result (λ found. IsSyntaxOf line.now (view found)) }
 {
-    let first = line.first_chunk::<4>()?;
-    match u32::from_le_bytes(*first) {
-        WRIT => write_line(&line[4..]),
-        READ => read_line(line, &line[4..]),
-        _ => other_line(line),
+    if let Some(found) = quick_read(line) {
+        return Some(found);
+    }
+    match quick_write(line) {
+        Some(found) => Some(found),
+        None => quick_begin_or_commit(line),
     }
 }

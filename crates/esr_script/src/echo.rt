@@ -28,7 +28,7 @@ pub enum Echo<'a> {
 /// Appends the line of any reply.
 #[cold]
 #[inline(never)]
-fn push_other_reply(
+pub fn push_other_reply(
     out: &mut TextBuffer,
     names: &Names,
     subject: ReplyNames<'_>,

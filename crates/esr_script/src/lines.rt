@@ -33,9 +33,8 @@ fn hand_over<S: Sink>(sink: &mut S, out: &mut TextBuffer) -> Result<(), RunFault
         × Appends (S.contents sink.old) (S.contents sink.new) sent)) }
     ensures failed { S.has_failed sink.new ≡ (S.has_failed sink.old || is_write_fault result) }
 {
-    let mut text = out.take_text();
-    let taken = sink.take(&mut text);
-    out.put_text(text);
+    let taken = sink.take(out.text());
+    out.clear();
     taken
 }
 

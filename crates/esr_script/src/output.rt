@@ -13,6 +13,19 @@ use std::io::Write;
 /// The capacity of an empty output buffer. A line of names may increase it.
 pub const OUTPUT_ROOM: usize = 65536;
 
+/// Writes a text and flushes it.
+pub fn send<W: Write>(text: &[u8], writer: &mut Watched<W>) -> Result<(), RunFault>
+    ensures ok { OnOk result (Appends (W.contents (inner writer.old)) (W.contents (inner writer.new)) text.now) }
+    ensures err { IfErr result (λ e. (e ≡ RunFault.Write) × ((sent : List ℕ) × BeginsWith text.now sent
+        × Appends (W.contents (inner writer.old)) (W.contents (inner writer.new)) sent)) }
+    ensures failed { failed writer.new ≡ (failed writer.old || is_write_fault result) }
+{
+    match writer.send_all(text) {
+        Ok(()) => Ok(()),
+        Err(_) => Err(RunFault::Write),
+    }
+}
+
 /// Writes out what the buffer holds, flushes it and empties the buffer.
 pub fn send_all<W: Write>(out: &mut Vec<u8>, writer: &mut Watched<W>) -> Result<(), RunFault>
     ensures ok { OnOk result ((out.new.items ≡ [])
@@ -21,9 +34,7 @@ pub fn send_all<W: Write>(out: &mut Vec<u8>, writer: &mut Watched<W>) -> Result<
         × Appends (W.contents (inner writer.old)) (W.contents (inner writer.new)) sent)) }
     ensures failed { failed writer.new ≡ (failed writer.old || is_write_fault result) }
 {
-    if writer.send_all(out).is_err() {
-        return Err(RunFault::Write);
-    }
+    send(out, writer)?;
     out.clear();
     out.shrink_to(OUTPUT_ROOM);
     Ok(())

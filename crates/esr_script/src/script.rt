@@ -4,11 +4,11 @@
 //! there is one order of refusals, and the refusal is an entry like any other.
 
 ghost use Rattle.esr_board.specs.declared.board.TheConstants.{MAX_SEATS};
-ghost use Rattle.std.specs.Prelude.{◌≡◌, ◌≢◌, ℕ, List, ◌+◌, ◌<◌, ◌≤◌, ◌⊎◌, [], ◌∷◌, ◌++◌, Ok, Err, None, OnErr, OnOk, IfOk, IfErr, IsErrOf, IsOk, true, false, ◌↔◌, length, pos, codes};
+ghost use Rattle.std.specs.Prelude.{◌≡◌, ◌≢◌, ℕ, List, ◌+◌, ◌<◌, ◌≤◌, ◌⊎◌, ◌^◌, [], ◌∷◌, ◌++◌, Ok, Err, None, OnErr, OnOk, IfOk, IfErr, IsErrOf, IsOk, true, false, ◌↔◌, length, pos, codes};
 ghost use Rattle.esr_report.specs.Names.{position_of};
-ghost use Rattle.esr_report.specs.Lines.{error_line};
+ghost use Rattle.esr_report.specs.Lines.{error_line, reply_line};
 ghost use Rattle.esr_report.specs.Subjects.{named_by};
-ghost use Rattle.esr_script.specs.Text.{Executes, EndsIn, start, closed, transaction_called, item_called, item_error, with_item, begin, ask, execute, answer, ScriptState};
+ghost use Rattle.esr_script.specs.Text.{Executes, EndsIn, start, bound, closed, transaction_called, item_called, item_error, with_item, begin, ask, execute, answer, ScriptState};
 ghost use Rattle.esr_script.specs.Stages.{IsBegin, is_running, history_of};
 ghost use Rattle.esr_views.specs.QueryAnswers.{IsAnswered, IsFoundOf, IsRecorded};
 ghost use Rattle.esr_script.specs.Audit.{IsAuditedScript, audit_output};
@@ -24,14 +24,14 @@ ghost use Rattle.esr_grammar.specs.Command as command;
 use crate::audited_script::AuditedScript;
 use crate::book::push_audit;
 use crate::declarations::Declarations;
-use crate::echo::{Echo, push_reply};
+use crate::echo::{Echo, push_other_reply, push_reply};
 use crate::fault::RunFault;
 use crate::sink::Audience;
 use crate::stage::Stage;
 use crate::text_buffer::TextBuffer;
 use esr_audit::{AuditError, Finding};
 use esr_board::Gate;
-use esr_grammar::{Line, Parsed, parse_line};
+use esr_grammar::{Line, Parsed, parse_begin_or_commit, parse_line, parse_read, parse_write};
 use esr_history::{Event, Reply, TxnId, TxnOutcome};
 use esr_items::{ItemId, MAX_ITEMS, MAX_VALUE, MAX_WEIGHT};
 use esr_least::QueryAudit;
@@ -192,11 +192,7 @@ impl Script {
     {
         self.stage.ensure_started(self.alloc)?;
         let reply = self.stage.step(event)?;
-        if let Reply::Begun(_) = reply {
-            if self.transactions.bind(subject.txn).is_err() {
-                return Err(RunFault::NoMemory);
-            }
-        }
+        bind_begun(&mut self.transactions, subject.txn, reply)?;
         let appended = reply_line(out, &self.transactions, subject, reply);
         outcome_or_fault(appended, LineOutcome::of_reply(reply))
     }
@@ -216,13 +212,7 @@ impl Script {
     {
         self.stage.ensure_started(self.alloc)?;
         let reply = self.stage.step_read(event)?;
-        if let Reply::Begun(_) = reply {
-            if self.transactions.bind(subject.txn).is_err() {
-                return Err(RunFault::NoMemory);
-            }
-        }
-        let appended = push_reply(out, &self.transactions, subject, echo, reply);
-        outcome_or_fault(appended, LineOutcome::of_reply(reply))
+        reply_to_event(&mut self.transactions, subject, echo, reply, out)
     }
 
     /// Executes a write, like `ask`. The reply is copied from the line.
@@ -240,13 +230,7 @@ impl Script {
     {
         self.stage.ensure_started(self.alloc)?;
         let reply = self.stage.step_write(event)?;
-        if let Reply::Begun(_) = reply {
-            if self.transactions.bind(subject.txn).is_err() {
-                return Err(RunFault::NoMemory);
-            }
-        }
-        let appended = push_reply(out, &self.transactions, subject, echo, reply);
-        outcome_or_fault(appended, LineOutcome::of_reply(reply))
+        reply_to_event(&mut self.transactions, subject, echo, reply, out)
     }
 
     /// Executes a begin or a commit, like `ask`. The words of the reply are copied from the line.
@@ -264,13 +248,7 @@ impl Script {
     {
         self.stage.ensure_started(self.alloc)?;
         let reply = self.stage.step(event)?;
-        if let Reply::Begun(_) = reply {
-            if self.transactions.bind(subject.txn).is_err() {
-                return Err(RunFault::NoMemory);
-            }
-        }
-        let appended = push_reply(out, &self.transactions, subject, echo, reply);
-        outcome_or_fault(appended, LineOutcome::of_reply(reply))
+        reply_to_event(&mut self.transactions, subject, echo, reply, out)
     }
 
     /// Begins an update, given the first two words of its line. Its name must not be bound already.
@@ -731,31 +709,70 @@ impl Script {
         }
     }
 
-    /// Executes a parsed line, like `answer`. This is the part of `answer` that is not inlined.
+    /// Executes any line, like `answer`. This is the part of `answer` that is not inlined.
     #[inline(never)]
     fn answer_any(
         &mut self,
         line: &[u8],
-        parsed: Parsed<'_>,
         audience: Audience,
         out: &mut TextBuffer,
     ) -> Result<LineOutcome, RunFault>
-        requires { IsReadingOf line.now parsed }
         ensures state { EndsIn (answer self.old line.now) self.new result }
         ensures text { audience ≡ Audience.Somebody
             → Executes (answer self.old line.now) self.new out.old out.new result }
     {
         let mut text = out.take_text();
-        let answered = self.answer_in_text(line, parsed, audience, &mut text);
+        let answered = self.answer_in_text(line, parse_line(line), audience, &mut text);
         out.put_text(text);
         answered
+    }
+
+    /// Executes a line that `answer` parses neither as a read nor as a write. Tests for a begin of an update and a commit first.
+    #[tactic(auto, using(crate::proofs::Unread::executed, crate::proofs::Unread::answered))]
+    #[inline(always)]
+    fn answer_other(
+        &mut self,
+        line: &[u8],
+        audience: Audience,
+        out: &mut TextBuffer,
+    ) -> Result<LineOutcome, RunFault>
+        ensures state { EndsIn (answer self.old line.now) self.new result }
+        ensures text { audience ≡ Audience.Somebody
+            → Executes (answer self.old line.now) self.new out.old out.new result }
+    {
+        match parse_begin_or_commit(line) {
+            Some(Line::BeginUpdate { name, limit }) => {
+                self.begin_update(&line[..6 + name.len()], name, limit, out)
+            }
+            Some(Line::Commit { txn }) => self.commit(txn, out),
+            _ => self.answer_any(line, audience, out),
+        }
+    }
+
+    /// Executes a line that `answer` does not parse as a read. Tests for a write first.
+    #[tactic(auto, using(crate::proofs::Unread::executed, crate::proofs::Unread::answered))]
+    #[inline(always)]
+    fn answer_write(
+        &mut self,
+        line: &[u8],
+        audience: Audience,
+        out: &mut TextBuffer,
+    ) -> Result<LineOutcome, RunFault>
+        ensures state { EndsIn (answer self.old line.now) self.new result }
+        ensures text { audience ≡ Audience.Somebody
+            → Executes (answer self.old line.now) self.new out.old out.new result }
+    {
+        match parse_write(line) {
+            Some(Line::Write { txn, item, value }) => self.write(line, txn, item, value, out),
+            _ => self.answer_other(line, audience, out),
+        }
     }
 
     /// Executes a line, appends its text to the output, and returns its outcome. An error leaves the output as it was.
     /// If the text is to be dropped, no query is audited, and the text appended is not specified.
     ///
-    /// Reads and writes, the most frequent commands, are inlined into the loop over the lines. The replies to the commands
-    /// of an update are placed in the buffer.
+    /// Each of the frequent commands has a separate parser, so the kind of a read or a write is a constant in the code that
+    /// executes it. The replies to the commands of an update are placed in the buffer.
     #[tactic(auto, using(crate::proofs::Unread::executed, crate::proofs::Unread::answered))]
     #[inline(always)]
     pub fn answer(
@@ -768,18 +785,58 @@ impl Script {
         ensures text { audience ≡ Audience.Somebody
             → Executes (answer self.old line.now) self.new out.old out.new result }
     {
-        match parse_line(line) {
-            Parsed::Command(Line::Read { txn, item }) => self.read(&line[5..], txn, item, out),
-            Parsed::Command(Line::Write { txn, item, value }) => {
-                self.write(line, txn, item, value, out)
-            }
-            Parsed::Command(Line::BeginUpdate { name, limit }) => {
-                self.begin_update(&line[..6 + name.len()], name, limit, out)
-            }
-            Parsed::Command(Line::Commit { txn }) => self.commit(txn, out),
-            parsed => self.answer_any(line, parsed, audience, out),
+        match parse_read(line) {
+            Some(Line::Read { txn, item }) => self.read(&line[5..], txn, item, out),
+            _ => self.answer_write(line, audience, out),
         }
     }
+}
+
+/// Binds the name of the transaction that has begun, if the reply says that one has.
+#[inline(always)]
+fn bind_begun(transactions: &mut Names, name: &str, reply: Reply) -> Result<(), RunFault>
+    requires unbound { (number : TxnId) → reply ≡ Reply.Begun number → position_of transactions.old name.now ≡ None }
+    requires count_within_max { length transactions.old < 2 ^ 32 }
+    ensures ok { OnOk result (transactions.new ≡ bound transactions.old name.now reply) }
+    ensures err { OnErr result (transactions.new ≡ transactions.old) }
+    ensures faults { IfErr result (λ e. e ≡ RunFault.NoMemory) }
+{
+    let Reply::Begun(_) = reply else {
+        return Ok(());
+    };
+    match transactions.bind(name) {
+        Ok(_) => Ok(()),
+        Err(_) => Err(RunFault::NoMemory),
+    }
+}
+
+/// Binds the name of the transaction that has begun, if one has, and appends the reply to the event. The words of the
+/// reply are copied from the line.
+#[inline(always)]
+fn reply_to_event(
+    transactions: &mut Names,
+    subject: ReplyNames<'_>,
+    echo: Echo<'_>,
+    reply: Reply,
+    out: &mut TextBuffer,
+) -> Result<LineOutcome, RunFault>
+    requires unbound { (number : TxnId) → reply ≡ Reply.Begun number
+        → position_of transactions.old subject.txn.now ≡ None }
+    requires count_within_max { length transactions.old < 2 ^ 32 }
+    requires echo { IsEcho echo (named_by subject) }
+    ensures names { OnOk result (transactions.new ≡ bound transactions.old subject.entry.txn.now reply) }
+    ensures text { OnOk result (out.new ≡ out.old ++ reply_line transactions.new (named_by subject.entry) reply) }
+    ensures err { OnErr result (out.new ≡ out.old) }
+    ensures count { length transactions.new ≤ length (bound transactions.old subject.entry.txn.now reply) }
+    ensures faults { IfErr result (λ e. e ≡ RunFault.NoMemory) }
+{
+    if let Reply::Refused(why) = reply {
+        let appended = push_other_reply(out, transactions, subject, reply);
+        return outcome_or_fault(appended, LineOutcome::Refused(why));
+    }
+    bind_begun(transactions, subject.txn, reply)?;
+    let appended = push_reply(out, transactions, subject, echo, reply);
+    outcome_or_fault(appended, LineOutcome::Accepted)
 }
 
 /// Returns the names for a reply that names a transaction alone.

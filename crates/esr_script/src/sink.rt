@@ -4,13 +4,13 @@
 //! same lines, so there is one loop over them (`lines`), and its sink decides about the text. If the text is dropped,
 //! it need not be made: a replay audits no query for an `audit` line of the script.
 
-ghost use Rattle.std.specs.Prelude.{◌≡◌, ℕ, List, [], Bool, false, Option, None, OnOk, IfErr, ◌||◌};
+ghost use Rattle.std.specs.Prelude.{◌≡◌, ℕ, List, Bool, false, Option, None, OnOk, IfErr, ◌||◌};
 ghost use Rattle.std.specs.Io.KnownBytes.{Appends};
 ghost use Rattle.esr_base.specs.Watch.{inner, failed, BeginsWith};
 ghost use Rattle.esr_script.specs.Parts.{is_write_fault};
 
 use crate::fault::RunFault;
-use crate::output::send_all;
+use crate::output::send;
 use esr_history::Watched;
 use std::io::Write;
 
@@ -31,11 +31,10 @@ pub trait Sink {
     fn audience(&self) -> Audience
         ensures { result ≡ Audience.NoReader → contents self.now ≡ None };
 
-    /// Takes what the buffer holds, and empties the buffer.
-    fn take(&mut self, text: &mut Vec<u8>) -> Result<(), RunFault>
-        ensures ok { OnOk result ((text.new.items ≡ [])
-            × Appends (contents self.old) (contents self.new) text.old.items) }
-        ensures err { IfErr result (λ e. (e ≡ RunFault.Write) × ((sent : List ℕ) × BeginsWith text.old.items sent
+    /// Takes a text.
+    fn take(&mut self, text: &[u8]) -> Result<(), RunFault>
+        ensures ok { OnOk result (Appends (contents self.old) (contents self.new) text.now) }
+        ensures err { IfErr result (λ e. (e ≡ RunFault.Write) × ((sent : List ℕ) × BeginsWith text.now sent
             × Appends (contents self.old) (contents self.new) sent)) }
         ensures failed { has_failed self.new ≡ (has_failed self.old || is_write_fault result) };
 }
@@ -49,8 +48,8 @@ impl<W: Write> Sink for Watched<W> {
         Audience::Somebody
     }
 
-    fn take(&mut self, text: &mut Vec<u8>) -> Result<(), RunFault> {
-        send_all(text, self)
+    fn take(&mut self, text: &[u8]) -> Result<(), RunFault> {
+        send(text, self)
     }
 }
 
@@ -67,8 +66,7 @@ impl Sink for Dropped {
         Audience::NoReader
     }
 
-    fn take(&mut self, text: &mut Vec<u8>) -> Result<(), RunFault> {
-        text.clear();
+    fn take(&mut self, _text: &[u8]) -> Result<(), RunFault> {
         Ok(())
     }
 }

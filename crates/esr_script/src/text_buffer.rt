@@ -7,6 +7,7 @@
 ghost use Rattle.std.specs.Prelude.{◌≡◌, ℕ, List, [], ◌+◌, ◌∷◌, ◌++◌, ◌<◌, ◌≤◌, IfOk, OnOk, OnErr, length, take, slice_set, codes};
 ghost use Rattle.esr_script.specs.Placed.{Placed};
 
+use crate::output::OUTPUT_ROOM;
 use std::alloc::{AllocError, Global};
 use std::marker::Model;
 use std::mem;
@@ -71,10 +72,12 @@ fn place(buffer: &mut [u8], at: usize, text: &[u8]) -> usize
     ensures { Placed buffer.old buffer.new at text.now result }
 {
     let len = text.len();
-    if len > 32 {
-        place_long(buffer, at, text)
-    } else if len >= 16 {
-        place_ends::<16>(buffer, at, text)
+    if len >= 16 {
+        if len > 32 {
+            place_long(buffer, at, text)
+        } else {
+            place_ends::<16>(buffer, at, text)
+        }
     } else if len >= 8 {
         place_ends::<8>(buffer, at, text)
     } else if len >= 4 {
@@ -221,11 +224,23 @@ impl TextBuffer {
         self.len
     }
 
-    /// Removes the text.
+    /// Returns the text.
+    pub fn text(&self) -> &[u8]
+        ensures { result.now ≡ self.now }
+    {
+        &self.buffer[..self.len]
+    }
+
+    /// Removes the text. The buffer keeps its length, so its bytes are not set again, unless a long line has extended it
+    /// beyond the usual capacity.
     pub fn clear(&mut self)
         ensures { self.new ≡ [] }
     {
         self.len = 0;
+        if self.buffer.len() > OUTPUT_ROOM {
+            self.buffer.clear();
+            self.buffer.shrink_to(OUTPUT_ROOM);
+        }
     }
 
     /// Takes the text, in a vector to which more can be appended before it is put back.
