@@ -38,7 +38,9 @@ fn hand_over<S: Sink>(sink: &mut S, out: &mut TextBuffer) -> Result<(), RunFault
     taken
 }
 
-/// Executes line after line. Output that is not yet taken is in `out`.
+/// Executes line after line. Output that is not yet taken is in `out`. It is a separate function, since the compiler would
+/// move the fields of `out` for each line if they were locals of its caller.
+#[inline(never)]
 #[tactic(auto, using(crate::proofs::Handed::handed_on))]
 pub fn answer_lines<R: Read, S: Sink, O: Observer>(
     reader: &mut Watched<R>,
