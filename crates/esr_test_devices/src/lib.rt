@@ -1,5 +1,4 @@
-//! Readers and writers that fail after some calls, and the checks of what a run has read and written by then. The tests of
-//! several crates use them.
+//! Readers and writers that fail after some calls. The tests of several crates use them.
 #![tactic(auto)]
 
 ghost use Rattle.std.specs.Prelude.{◌≡◌, false};
@@ -9,7 +8,6 @@ use esr_history::Watched;
 use std::alloc::Global;
 use std::io;
 use std::io::{Read, Write};
-use std::process::Abort;
 
 /// Yields up to `upper_bound` bytes at a time, and fails after `left` calls.
 #[derive(Drop)]
@@ -92,26 +90,7 @@ pub fn narrow_until(alloc: Global, upper_bound: usize, left: usize, way: Way) ->
     })
 }
 
-/// Checks that a read has failed, no write has, and nothing was written.
-pub fn check_cut(rt: &impl Abort, reader: &Watched<Cut<'_>>, writer: &Watched<Vec<u8>>) {
-    assert!(rt; reader.failed());
-    assert!(rt; !writer.failed());
-    assert!(rt; writer.inner().is_empty());
-}
-
-/// Checks that a run that ended well has written the whole text, and another one a part of it, since a write failed.
-pub fn check_narrow(rt: &impl Abort, writer: &Watched<Narrow>, ended_well: bool, whole: &str) {
-    let taken = writer.inner().taken.as_slice();
-    assert!(rt; writer.failed() != ended_well);
-    assert!(rt; whole.as_bytes().starts_with(taken));
-    assert!(rt; !ended_well || taken.len() == whole.len());
-}
-
-/// Checks that this text was written.
-pub fn check_written(rt: &impl Abort, writer: &Watched<Vec<u8>>, text: &str, name: &str) {
-    assert!(rt;
-        writer.inner().as_slice() == text.as_bytes(),
-        "{} writes its text",
-        name
-    );
+/// Returns whether a read has failed, no write has, and nothing was written.
+pub fn is_cut(reader: &Watched<Cut<'_>>, writer: &Watched<Vec<u8>>) -> bool {
+    reader.failed() && !writer.failed() && writer.inner().is_empty()
 }

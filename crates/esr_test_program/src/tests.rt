@@ -6,4 +6,4 @@ mod claims;
 mod drives;
 mod scripts;
 mod watched;
-mod whys;
+mod written;

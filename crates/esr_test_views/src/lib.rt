@@ -1,5 +1,5 @@
-//! Tests of the views of a script: pictures, prose, pages, timelines, trace events and tables. The expected texts are written
-//! by hand, never by the program.
+//! Tests of the views of a script: pictures, prose, pages, timelines, trace events, tables, and the reasons of refusals. The
+//! expected texts are written by hand, never by the program.
 #![tactic(auto)]
 
 #[cfg(test)]

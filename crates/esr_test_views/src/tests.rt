@@ -3,3 +3,4 @@
 mod pictures;
 mod script_views;
 mod tables;
+mod whys;

@@ -4,9 +4,9 @@ mod failing;
 mod hostile;
 mod rows;
 
+use crate::tests::written::check_written;
 use esr_bundle::{JudgeFault, from_json, judge, to_json};
 use esr_history::Watched;
-use esr_test_devices::check_written;
 use rows::{BACK_FLOW, EMPTY, Row, STRICT, TWO_UPDATES, table};
 use std::alloc::{AllocError, Global};
 use std::process::Abort;

@@ -6,10 +6,10 @@ ghost use Rattle.esr_base.specs.Watch.{failed};
 
 mod failing;
 
+use crate::tests::written::check_written;
 use esr_drive::{DriveFault, DriveOutput, NoGate, drive};
 use esr_history::Watched;
 use esr_lint::NoObserver;
-use esr_test_devices::check_written;
 use std::alloc::Global;
 use std::io::{Read, Write};
 use std::sync::Wait;

@@ -12,10 +12,10 @@ mod failing;
 mod large;
 pub mod rows;
 
+use crate::tests::written::check_written;
 use esr_history::Watched;
 use esr_lint::NoObserver;
 use esr_script::{RunFault, run};
-use esr_test_devices::check_written;
 use rows::table;
 use std::alloc::Global;
 use std::io::{Read, Write};

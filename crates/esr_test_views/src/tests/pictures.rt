@@ -7,7 +7,7 @@ use esr_history::Watched;
 use esr_lint::{NoObserver, Notes};
 use esr_picture::{PictureView, PictureWithErrorsView};
 use esr_script::{RunFault, render_query};
-use esr_test_devices::{Way, check_cut, cut_after, narrow_until};
+use esr_test_devices::{Way, cut_after, is_cut, narrow_until};
 use std::alloc::{AllocError, Global};
 use std::io::{Read, Write};
 use std::process::Abort;
@@ -286,7 +286,7 @@ fn each_read_fails_in_turn(rt: HostRuntime) {
         let mut writer = Watched::new(Vec::new(alloc));
         let ended = draw(alloc, &mut reader, &mut writer, "report");
         assert!(rt; ended == Err(RunFault::Read));
-        check_cut(&rt, &reader, &writer);
+        assert!(rt; is_cut(&reader, &writer));
     }
 }
 

@@ -1,9 +1,10 @@
 //! Readers and writers that fail.
 
 use super::rows::BACK_FLOW;
+use crate::tests::written::check_narrow;
 use esr_bundle::{JudgeFault, Verdict, judge};
 use esr_history::Watched;
-use esr_test_devices::{Way, check_cut, check_narrow, cut_after, narrow_until};
+use esr_test_devices::{Way, cut_after, is_cut, narrow_until};
 use std::alloc::Global;
 use std::io;
 use std::io::Read;
@@ -34,7 +35,7 @@ fn each_read_fails_in_turn(rt: HostRuntime) {
         let mut writer = Watched::new(Vec::new(alloc));
         let ended = judge(alloc, &mut reader, &mut writer);
         assert!(rt; ended == Err(JudgeFault::Read));
-        check_cut(&rt, &reader, &writer);
+        assert!(rt; is_cut(&reader, &writer));
     }
 }
 

@@ -3,7 +3,7 @@
 use super::drive_by;
 use esr_drive::DriveFault;
 use esr_history::Watched;
-use esr_test_devices::{Way, check_cut, cut_after, narrow_until};
+use esr_test_devices::{Way, cut_after, is_cut, narrow_until};
 use std::io;
 use std::io::Read;
 
@@ -38,7 +38,7 @@ fn a_failed_read_leaves_nothing_written(rt: HostRuntime) {
         let mut writer = Watched::new(Vec::new(alloc));
         let ended = drive_by(&rt, alloc, &mut reader, &mut writer, 1);
         assert!(rt; ended == Err(DriveFault::Read));
-        check_cut(&rt, &reader, &writer);
+        assert!(rt; is_cut(&reader, &writer));
     }
 }
 

@@ -1,9 +1,9 @@
 //! Whole scripts audited.
 
+use crate::tests::written::check_written;
 use esr_history::Watched;
 use esr_lint::NoObserver;
 use esr_script::{NoGate, RunFault, audit};
-use esr_test_devices::check_written;
 use std::alloc::Global;
 use std::process::Abort;
 use std::thread::Threads;

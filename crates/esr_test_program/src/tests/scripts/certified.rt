@@ -3,10 +3,11 @@
 ghost use Rattle.std.specs.Prelude.{◌≡◌, false};
 ghost use Rattle.esr_base.specs.Watch.{failed};
 
+use crate::tests::written::{check_narrow, check_written};
 use esr_history::Watched;
 use esr_lint::NoObserver;
 use esr_script::{RunFault, certify, certify_steps};
-use esr_test_devices::{Way, check_cut, check_narrow, check_written, cut_after, narrow_until};
+use esr_test_devices::{Way, cut_after, is_cut, narrow_until};
 use std::alloc::Global;
 use std::io::{Read, Write};
 use std::process::Abort;
@@ -204,7 +205,7 @@ fn each_read_fails_in_turn(rt: HostRuntime) {
         let mut writer = Watched::new(Vec::new(alloc));
         let ended = certify_q(alloc, &mut reader, &mut writer);
         assert!(rt; ended == Err(RunFault::Read));
-        check_cut(&rt, &reader, &writer);
+        assert!(rt; is_cut(&reader, &writer));
     }
 }
 

@@ -1,10 +1,10 @@
 //! Queries explained.
 
+use crate::tests::written::check_written;
 use esr_explain::Explaining;
 use esr_history::Watched;
 use esr_lint::NoObserver;
 use esr_script::{RunFault, render_query};
-use esr_test_devices::check_written;
 use std::alloc::Global;
 use std::process::Abort;
 

@@ -4,10 +4,11 @@ ghost use Rattle.std.specs.Prelude.{◌≡◌, false};
 ghost use Rattle.esr_base.specs.Watch.{failed};
 
 use super::run_script;
+use crate::tests::written::check_narrow;
 use esr_history::Watched;
 use esr_lint::NoObserver;
 use esr_script::{NoGate, RunFault, audit};
-use esr_test_devices::{Way, check_cut, check_narrow, cut_after, narrow_until};
+use esr_test_devices::{Way, cut_after, is_cut, narrow_until};
 use std::alloc::Global;
 use std::io::{Read, Write};
 use std::process::Abort;
@@ -104,7 +105,7 @@ fn each_read_of_an_audit_fails_in_turn(rt: HostRuntime) {
         let mut writer = Watched::new(Vec::new(alloc));
         let ended = audit_by_two(&rt, alloc, &mut reader, &mut writer);
         assert!(rt; ended == Err(RunFault::Read));
-        check_cut(&rt, &reader, &writer);
+        assert!(rt; is_cut(&reader, &writer));
     }
 }
 
