@@ -44,7 +44,7 @@ impl Model for Ledgers {
     ghost invariant = { λ l. AreBooks l.accounts.items l.total };
 }
 
-/// Returns whether an additional amount would exceed the limit of a transaction. It compares the amount with what is left
+/// Returns whether an additional amount would exceed the limit of a transaction. It compares the amount with the unused part
 /// of the limit, and is inlined, because for a charge of 64 bits the compiler then compares 64 bits.
 #[inline(always)]
 fn passes(accounts: &[Account], t: TxnId, amount: u128) -> bool
