@@ -8,8 +8,8 @@
 //!
 //! The longer a lease, the fewer transactions find the engine's data in another cache, and the longer a thread waits for the
 //! leases of the others. A lease is short for one poller. With more of them the data of more threads moves, so a lease is
-//! longer. If many more threads are busy than there are processors, a thread waits for turns of a millisecond (`turns`), and
-//! leases of a twentieth of that hardly add to its wait. Moving the data takes about as long as a transaction. So a lease has
+//! longer. If many more threads are busy than there are processors, a thread waits for turns (`turns`), and leases of a
+//! fifth of a turn hardly add to its wait. Moving the data takes about as long as a transaction. So a lease has
 //! time for [`HOLDS`] of them, also with larger transactions or on a slower host.
 //!
 //! Rejected: leases of 100 microseconds for too many threads, which gained nothing, with a higher 99th percentile; time for 20
@@ -20,9 +20,9 @@ use crate::{sync::nanoseconds, turns};
 use std::sync::atomic::Ordering;
 
 /// A lease ends on request after this time in nanoseconds, if one thread polls.
-const LEASE: u64 = 20_000;
+const LEASE: u64 = 10_000;
 /// A lease is longer by this time for each further thread that polls.
-const MORE: u64 = 6_000;
+const MORE: u64 = 3_000;
 /// The length of a lease if many more threads are busy than there are processors.
 const LONGER: u64 = 50_000;
 /// A lease has time for this number of holds.

@@ -255,7 +255,7 @@ fn more_threads_make_leases_longer() {
         lengths.collect::<Vec<_>>()
     };
     let pollers = [0, 1, 2, 7];
-    let few = [20_000, 20_000, 26_000, 56_000];
+    let few = [12_600, 12_600, 13_000, 28_000];
     assert_eq!(lengths(&pollers, false, 900), few);
     assert_eq!(lengths(&pollers, true, 900), [50_000; 4]);
     assert_eq!(lengths(&pollers, false, 5_000), [70_000; 4]);
