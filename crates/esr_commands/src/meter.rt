@@ -1,7 +1,7 @@
 //! A progress indicator on standard error: the number of lines read, then the number of audits started, out of the total.
 //!
 //! It is a single line, rewritten in place. It appears after two seconds, is updated at most five times a second, and is erased
-//! before anything else is printed. The clock is read only once per 1,024 lines and once per audit, so that the cost is
+//! before anything else is printed. The clock is read at most once per 1,024 lines and once per audit, so that the cost is
 //! negligible when no progress is shown. Workers report audits through a gate, because an observer belongs to the reading
 //! thread alone. No clause specifies the text, and a failure to write it is not an error of the run.
 
@@ -18,7 +18,7 @@ const PATIENCE: u64 = 2_000;
 /// The minimum of milliseconds between two displays.
 const PAUSE: u64 = 200;
 
-/// The number of lines between two readings of the clock.
+/// The minimum number of lines between two readings of the clock.
 const LINES: u64 = 1_024;
 
 /// Shows the progress of a run.
@@ -87,7 +87,10 @@ pub struct LineObserver<'a, 'm, 'r, R, E> {
     reporter: ErrorReporter<'a, E>,
     meter: &'m Meter<'r, R>,
     hash_seed: u64,
+    /// The number of completed lines, once the run has ended.
     lines: u64,
+    /// The number of lines at the last reading of the clock.
+    timed: u64,
 }
 
 impl<'a, 'm, 'r, R: Clock + Eprint, E: Eprint> LineObserver<'a, 'm, 'r, R, E> {
@@ -101,6 +104,7 @@ impl<'a, 'm, 'r, R: Clock + Eprint, E: Eprint> LineObserver<'a, 'm, 'r, R, E> {
             meter,
             hash_seed,
             lines: 0,
+            timed: 0,
         }
     }
 
@@ -109,7 +113,7 @@ impl<'a, 'm, 'r, R: Clock + Eprint, E: Eprint> LineObserver<'a, 'm, 'r, R, E> {
         self.reporter.faults()
     }
 
-    /// Returns the number of the line after the last one executed: if a line ends the run, that line.
+    /// Returns the number of the line after the last one completed, once the run has ended: if a line ended it, that line.
     pub fn next_line(&self) -> u64 {
         self.lines.saturating_add(1)
     }
@@ -123,21 +127,6 @@ impl<'a, 'm, 'r, R: Clock + Eprint, E: Eprint> LineObserver<'a, 'm, 'r, R, E> {
     pub fn release(&self) {
         self.reporter.release();
     }
-
-    /// Reports a line with an error.
-    #[cold]
-    #[inline(never)]
-    fn report(&mut self, number: u64, line: &[u8], outcome: LineOutcome) {
-        self.meter.clear();
-        self.reporter.see_line(number, line, outcome);
-    }
-
-    /// Shows the number of lines read.
-    #[cold]
-    #[inline(never)]
-    fn show_progress(&self, number: u64) {
-        self.meter.show(&format_args!("line {number}"));
-    }
 }
 
 impl<R: Clock + Eprint, E: Eprint> Observer for LineObserver<'_, '_, '_, R, E> {
@@ -145,14 +134,21 @@ impl<R: Clock + Eprint, E: Eprint> Observer for LineObserver<'_, '_, '_, R, E> {
         self.hash_seed
     }
 
-    #[inline(always)]
+    #[cold]
+    #[inline(never)]
     fn see_line(&mut self, number: u64, line: &[u8], outcome: LineOutcome) {
-        self.lines = number;
         if let LineOutcome::Error(_) = outcome {
-            self.report(number, line, outcome);
+            self.meter.clear();
+            self.reporter.see_line(number, line, outcome);
         }
-        if number % LINES == 0 {
-            self.show_progress(number);
+    }
+
+    #[cold]
+    #[inline(never)]
+    fn see_progress(&mut self, lines: u64) {
+        if lines.saturating_sub(self.timed) >= LINES {
+            self.timed = lines;
+            self.meter.show(&format_args!("line {lines}"));
         }
     }
 
@@ -160,8 +156,9 @@ impl<R: Clock + Eprint, E: Eprint> Observer for LineObserver<'_, '_, '_, R, E> {
         self.reporter.see_transaction(name, status);
     }
 
-    fn see_end(&mut self) {
+    fn see_end(&mut self, lines: u64) {
+        self.lines = lines;
         self.meter.clear();
-        self.reporter.see_end();
+        self.reporter.see_end(lines);
     }
 }

@@ -36,5 +36,5 @@ impl Observer for KeptLine {
 
     fn see_transaction(&mut self, _name: &str, _status: TxnSummary) {}
 
-    fn see_end(&mut self) {}
+    fn see_end(&mut self, _lines: u64) {}
 }

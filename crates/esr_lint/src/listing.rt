@@ -123,7 +123,6 @@ impl<W: Write> Observer for Listing<'_, W> {
     }
 
     fn see_line(&mut self, number: u64, line: &[u8], outcome: LineOutcome) {
-        self.lines = number;
         if self.failed.is_some() {
             return;
         }
@@ -149,5 +148,7 @@ impl<W: Write> Observer for Listing<'_, W> {
         self.note(listed);
     }
 
-    fn see_end(&mut self) {}
+    fn see_end(&mut self, lines: u64) {
+        self.lines = lines;
+    }
 }

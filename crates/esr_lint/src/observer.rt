@@ -30,11 +30,6 @@ impl LineOutcome {
             _ => LineOutcome::Accepted,
         }
     }
-
-    /// Returns whether the line added an entry to the history.
-    pub fn is_entry(self) -> bool {
-        matches!(self, LineOutcome::Accepted | LineOutcome::Refused(_))
-    }
 }
 
 /// The kind and the outcome of a transaction.
@@ -52,15 +47,21 @@ pub trait Observer {
         0
     }
 
-    /// Receives a line with its number, from 1, without its line feed, and its outcome.
+    /// Receives the number, from 1, of a line whose event the machine accepted. Most lines are such.
+    fn see_accepted(&mut self, _number: u64) {}
+
+    /// Receives any other line that submits an event or has an error, with its number, without its line feed, and its outcome.
     fn see_line(&mut self, number: u64, line: &[u8], outcome: LineOutcome);
+
+    /// Receives the number of lines so far, before the run waits for input or sends much output.
+    fn see_progress(&mut self, _lines: u64) {}
 
     /// Receives a transaction after the last line, in the order of the begins. Transactions are shown before a text
     /// of the whole script is made, if the requested query is not a committed one, and at the end of a listing.
     fn see_transaction(&mut self, name: &str, status: TxnSummary);
 
-    /// Ends the lines. The final state of the script is not written yet.
-    fn see_end(&mut self);
+    /// Ends the lines, and receives the number of lines that were completed. The final state of the script is not written yet.
+    fn see_end(&mut self, lines: u64);
 }
 
 /// An observer that ignores what it is shown.
@@ -72,5 +73,5 @@ impl Observer for NoObserver {
 
     fn see_transaction(&mut self, _name: &str, _status: TxnSummary) {}
 
-    fn see_end(&mut self) {}
+    fn see_end(&mut self, _lines: u64) {}
 }

@@ -239,7 +239,7 @@ impl<E: Eprint> Observer for ErrorReporter<'_, E> {
         }
     }
 
-    fn see_end(&mut self) {
+    fn see_end(&mut self, _lines: u64) {
         if !self.reports.held {
             self.report_all();
         }

@@ -3,6 +3,8 @@ use Rattle.std.proofs.Common.{◌≡◌, List, ℕ, false, inl, sym, ap, Some, R
 use Rattle.esr_grammar.specs.Command as command
 use Rattle.esr_grammar.specs.Command.{Command, is_skipped, reading}
 use Rattle.esr_script.specs.declared.fault.RunFault.TheVariants as fault
+use Rattle.esr_script.specs.declared.sink.Audience.{Audience}
+use Rattle.esr_script.specs.Parts.{IsAnsweredBy}
 use Rattle.esr_script.specs.Text.{ScriptState, RunFault, Executes, EndsIn, closed, execute, answer, audit_text}
 
 module _ (s new : ScriptState) (line : List ℕ) (skipped : is_skipped line ≡ false) where
@@ -18,6 +20,6 @@ module _ (s new : ScriptState) (line : List ℕ) (skipped : is_skipped line ≡ 
   executed c is (Ok done) out grown h = record { ok = (h.ok.0, rw (skipped, is) h.ok.1); faults = tt }
   executed c is (Err e) out grown h = record { ok = tt; faults = rw (skipped, is) h.faults }
 
-  pub answered : {T : Type 0} (c : Command) → reading line ≡ Some c → (r : Result T RunFault) (out grown : List ℕ) → Executes (execute s c) new out grown r
-      → Executes (answer s line) new out grown r
-  answered c is r out grown h = rw (skipped, is) h
+  pub answered : {T : Type 0} (c : Command) → reading line ≡ Some c → (audience : Audience) (r : Result T RunFault) (out grown : List ℕ)
+      → Executes (execute s c) new out grown r → IsAnsweredBy (answer s line) audience new out grown r
+  answered c is audience r out grown h = record { state = executed c is r out grown h; text = λ somebody. rw (skipped, is) h }

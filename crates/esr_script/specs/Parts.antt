@@ -3,9 +3,11 @@ use Rattle.std.specs.Prelude.{◌≡◌, ℕ, List, ◌++◌, ◌⊎◌, Bool, t
 use Rattle.std.specs.Io.KnownBytes.{Appends}
 use Rattle.esr_base.specs.Watch.{BeginsWith}
 use Rattle.esr_script.specs.declared.fault.RunFault.TheVariants as fault
+use Rattle.esr_script.specs.declared.sink.Audience.{Audience}
+use Rattle.esr_script.specs.declared.sink.Audience.TheVariants.{Somebody}
 use Rattle.esr_grammar.specs.Lines.{lines, whole_lines}
 use Rattle.esr_script.specs.Run.{IsRunBy}
-use Rattle.esr_script.specs.Text.{ScriptState, start, state_after, outcome, outcome_of_lines, outcome_from, preceded_by, RunFault}
+use Rattle.esr_script.specs.Text.{ScriptState, start, state_after, outcome, outcome_of_lines, outcome_from, preceded_by, Executes, EndsIn, RunFault}
 
 -- whether a read failed, and whether a write did
 abbrev pub is_read_fault : {T : Type 0} → Result T RunFault → Bool
@@ -58,3 +60,9 @@ pub record IsAnswer (taken : Option (List ℕ)) (due : Result (ScriptState × Li
       × IsUnread taken gone)
   pub err : OnErr result ((gone : List ℕ) × (out_old ≡ gone ++ out_new) × IsUnread taken gone)
   pub faults : IfErr result (λ e. (e ≡ fault.NoMemory) ⊎ ((e ≡ fault.HistoryFull) × (due ≡ Err fault.HistoryFull)))
+
+-- A line was executed as due. Its text is due only if somebody reads it.
+pub record IsAnsweredBy {T : Type 0} (due : Result (ScriptState × List ℕ) RunFault) (audience : Audience) (new : ScriptState)
+    (out_old out_new : List ℕ) (result : Result T RunFault) : Type 0 where
+  pub state : EndsIn due new result
+  pub text : audience ≡ Somebody → Executes due new out_old out_new result

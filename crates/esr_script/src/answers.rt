@@ -47,12 +47,12 @@ fn show<O: Observer>(
     ensures { result ≡ without_outcome answered }
 {
     match answered {
-        Ok(outcome) => {
-            observer.see_line(number, line, outcome);
-            Ok(())
-        }
-        Err(fault) => Err(fault),
+        Ok(LineOutcome::Accepted) => observer.see_accepted(number),
+        Ok(LineOutcome::NoEvent) => {}
+        Ok(outcome) => observer.see_line(number, line, outcome),
+        Err(fault) => return Err(fault),
     }
+    Ok(())
 }
 
 /// Executes the line after `count` lines, and passes it and its outcome to the observer.
@@ -117,23 +117,23 @@ pub fn answer_next<S: Sink, O: Observer>(
     Ok(())
 }
 
-/// Executes the last line, if it has no line feed.
+/// Executes the last line, if it has no line feed, and counts it.
 pub fn answer_last<S: Sink, O: Observer>(
     pending: &InputBuffer,
-    count: u64,
+    count: &mut u64,
     script: &mut Script,
     sink: &S,
     out: &mut TextBuffer,
     observer: &mut O,
 ) -> Result<(), RunFault>
     requires short { length pending.now ≤ MAX_LINE_BYTES }
-    requires count { count ≤ MAX_LINES }
+    requires count { count.old ≤ MAX_LINES }
     ensures held { (input sent : List ℕ) (left : Option (List ℕ))
-        → InputProgress input left pending.now count script.old (sent ++ out.old)
+        → InputProgress input left pending.now count.old script.old (sent ++ out.old)
         → IsAtEnd left → line_len pending.now ≡ length pending.now → (gone : List ℕ)
         × IsUnread (S.contents sink.now) gone × IsHeldRun input left out.new result (sent ++ gone) }
     ensures replay { (input written : List ℕ) (left : Option (List ℕ))
-        → InputProgress input left pending.now count script.old written
+        → InputProgress input left pending.now count.old script.old written
         → IsAtEnd left → line_len pending.now ≡ length pending.now → IsReplay input left result script.new }
     ensures read { is_read_fault result ≡ false }
     ensures write { is_write_fault result ≡ false }
@@ -142,8 +142,10 @@ pub fn answer_last<S: Sink, O: Observer>(
     if line.is_empty() {
         return Ok(());
     }
-    if count == MAX_LINES {
+    if *count == MAX_LINES {
         return Err(RunFault::TooManyLines);
     }
-    answer(line, count, script, sink, out, observer)
+    let ended = answer(line, *count, script, sink, out, observer);
+    *count += u64::from(ended.is_ok());
+    ended
 }

@@ -30,6 +30,14 @@ impl<'a, O> EntryLines<'a, O> {
             None
         }
     }
+
+    /// Records the line of an entry.
+    fn record(&mut self, number: u64) {
+        let number = u32::try_from(number).unwrap_or(u32::MAX);
+        if self.lines.push(number).is_err() {
+            self.is_whole = false;
+        }
+    }
 }
 
 impl<O: Observer> Observer for EntryLines<'_, O> {
@@ -37,21 +45,27 @@ impl<O: Observer> Observer for EntryLines<'_, O> {
         self.observer.hash_seed()
     }
 
+    fn see_accepted(&mut self, number: u64) {
+        self.record(number);
+        self.observer.see_accepted(number);
+    }
+
     fn see_line(&mut self, number: u64, line: &[u8], outcome: LineOutcome) {
-        if outcome.is_entry() {
-            let number = u32::try_from(number).unwrap_or(u32::MAX);
-            if self.lines.push(number).is_err() {
-                self.is_whole = false;
-            }
+        if let LineOutcome::Refused(_) = outcome {
+            self.record(number);
         }
         self.observer.see_line(number, line, outcome);
+    }
+
+    fn see_progress(&mut self, lines: u64) {
+        self.observer.see_progress(lines);
     }
 
     fn see_transaction(&mut self, name: &str, status: TxnSummary) {
         self.observer.see_transaction(name, status);
     }
 
-    fn see_end(&mut self) {
-        self.observer.see_end();
+    fn see_end(&mut self, lines: u64) {
+        self.observer.see_end(lines);
     }
 }

@@ -26,31 +26,39 @@ use std::io::Read;
 
 const OUTPUT_FULL: usize = 32768;
 
-/// Lets the sink take the output, and empties the buffer.
-fn hand_over<S: Sink>(sink: &mut S, out: &mut TextBuffer) -> Result<(), RunFault>
+/// Shows the observer the number of lines so far, lets the sink take the output, and empties the buffer.
+fn hand_over<S: Sink, O: Observer>(
+    sink: &mut S,
+    out: &mut TextBuffer,
+    count: u64,
+    observer: &mut O,
+) -> Result<(), RunFault>
     ensures ok { OnOk result ((out.new ≡ []) × Appends (S.contents sink.old) (S.contents sink.new) out.old) }
     ensures err { IfErr result (λ e. (e ≡ RunFault.Write) × ((sent : List ℕ) × BeginsWith out.old sent
         × Appends (S.contents sink.old) (S.contents sink.new) sent)) }
     ensures failed { S.has_failed sink.new ≡ (S.has_failed sink.old || is_write_fault result) }
 {
+    observer.see_progress(count);
     let taken = sink.take(out.text());
     out.clear();
     taken
 }
 
-/// Executes line after line. Output that is not yet taken is in `out`. It is a separate function, since the compiler would
-/// move the fields of `out` for each line if they were locals of its caller.
+/// Executes line after line, and counts them. Output that is not yet taken is in `out`. It is a separate function, since the
+/// compiler would move the fields of `out` for each line if they were locals of its caller.
 #[inline(never)]
 #[tactic(auto, using(crate::proofs::Handed::handed_on))]
 pub fn answer_lines<R: Read, S: Sink, O: Observer>(
     reader: &mut Watched<R>,
     sink: &mut S,
     pending: &mut InputBuffer,
+    count: &mut u64,
     script: &mut Script,
     out: &mut TextBuffer,
     observer: &mut O,
 ) -> Result<(), RunFault>
     requires pending { pending.old ≡ [] }
+    requires count { count.old ≡ 0 }
     requires script { script.old ≡ start }
     requires out { out.old ≡ [] }
     requires reader { failed reader.old ≡ false }
@@ -64,31 +72,32 @@ pub fn answer_lines<R: Read, S: Sink, O: Observer>(
     ensures reader { failed reader.new ≡ is_read_fault result }
     ensures sink { S.has_failed sink.new ≡ is_write_fault result }
 {
-    let mut count: u64 = 0;
     'lines: loop {
         let next = next_line(pending.bytes());
         if let Next::More = next {
-            let received = read_on(reader, sink, pending, out)?;
+            let received = read_on(reader, sink, pending, out, *count, observer)?;
             if received == 0 {
                 return answer_last(pending, count, script, sink, out, observer);
             }
             continue 'lines;
         }
-        answer_next(next, pending, count, script, sink, out, observer)?;
+        answer_next(next, pending, *count, script, sink, out, observer)?;
         if out.len() >= OUTPUT_FULL {
-            hand_over(sink, out)?;
+            hand_over(sink, out, *count + 1, observer)?;
         }
-        count += 1;
+        *count += 1;
     }
 }
 
 /// Lets the sink take the output, and then reads once. Returns the number of bytes read: 0 at the end of the input.
 #[tactic(auto, using(crate::proofs::Handed::handed_on))]
-fn read_on<R: Read, S: Sink>(
+fn read_on<R: Read, S: Sink, O: Observer>(
     reader: &mut Watched<R>,
     sink: &mut S,
     pending: &mut InputBuffer,
     out: &mut TextBuffer,
+    count: u64,
+    observer: &mut O,
 ) -> Result<usize, RunFault>
     requires short { length pending.old ≤ MAX_LINE_BYTES }
     requires reader { failed reader.old ≡ false }
@@ -106,6 +115,6 @@ fn read_on<R: Read, S: Sink>(
     ensures reader { failed reader.new ≡ is_read_fault result }
     ensures sink { S.has_failed sink.new ≡ is_write_fault result }
 {
-    hand_over(sink, out)?;
+    hand_over(sink, out, count, observer)?;
     pending.fill(reader)
 }

@@ -43,17 +43,19 @@ pub fn run<R: Read, W: Write, O: Observer>(
         return Err(RunFault::NoMemory);
     };
     let mut script = Script::new(alloc, observer.hash_seed());
+    let mut lines = 0;
     let ended = answer_lines(
         reader,
         writer,
         &mut pending,
+        &mut lines,
         &mut script,
         &mut out,
         observer,
     );
     let mut text = out.take_text();
     let ended = send_rest(ended, &mut text, writer);
-    observer.see_end();
+    observer.see_end(lines);
     ended
 }
 

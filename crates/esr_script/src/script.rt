@@ -9,6 +9,7 @@ ghost use Rattle.esr_report.specs.Names.{position_of};
 ghost use Rattle.esr_report.specs.Lines.{error_line, reply_line};
 ghost use Rattle.esr_report.specs.Subjects.{named_by};
 ghost use Rattle.esr_script.specs.Text.{Executes, EndsIn, start, bound, closed, transaction_called, item_called, item_error, with_item, begin, ask, execute, answer, ScriptState};
+ghost use Rattle.esr_script.specs.Parts.{IsAnsweredBy};
 ghost use Rattle.esr_script.specs.Stages.{IsBegin, is_running, history_of};
 ghost use Rattle.esr_views.specs.QueryAnswers.{IsAnswered, IsFoundOf, IsRecorded};
 ghost use Rattle.esr_script.specs.Audit.{IsAuditedScript, audit_output};
@@ -717,9 +718,7 @@ impl Script {
         audience: Audience,
         out: &mut TextBuffer,
     ) -> Result<LineOutcome, RunFault>
-        ensures state { EndsIn (answer self.old line.now) self.new result }
-        ensures text { audience ≡ Audience.Somebody
-            → Executes (answer self.old line.now) self.new out.old out.new result }
+        ensures { IsAnsweredBy (answer self.old line.now) audience self.new out.old out.new result }
     {
         let mut text = out.take_text();
         let answered = self.answer_in_text(line, parse_line(line), audience, &mut text);
@@ -728,17 +727,14 @@ impl Script {
     }
 
     /// Executes a line that `answer` parses neither as a read nor as a write. Tests for a begin of an update and a commit first.
-    #[tactic(auto, using(crate::proofs::Unread::executed, crate::proofs::Unread::answered))]
     #[inline(always)]
-    fn answer_other(
+    fn answer_unless_access(
         &mut self,
         line: &[u8],
         audience: Audience,
         out: &mut TextBuffer,
     ) -> Result<LineOutcome, RunFault>
-        ensures state { EndsIn (answer self.old line.now) self.new result }
-        ensures text { audience ≡ Audience.Somebody
-            → Executes (answer self.old line.now) self.new out.old out.new result }
+        ensures { IsAnsweredBy (answer self.old line.now) audience self.new out.old out.new result }
     {
         match parse_begin_or_commit(line) {
             Some(Line::BeginUpdate { name, limit }) => {
@@ -750,21 +746,18 @@ impl Script {
     }
 
     /// Executes a line that `answer` does not parse as a read. Tests for a write first.
-    #[tactic(auto, using(crate::proofs::Unread::executed, crate::proofs::Unread::answered))]
     #[inline(always)]
-    fn answer_write(
+    fn answer_unless_read(
         &mut self,
         line: &[u8],
         audience: Audience,
         out: &mut TextBuffer,
     ) -> Result<LineOutcome, RunFault>
-        ensures state { EndsIn (answer self.old line.now) self.new result }
-        ensures text { audience ≡ Audience.Somebody
-            → Executes (answer self.old line.now) self.new out.old out.new result }
+        ensures { IsAnsweredBy (answer self.old line.now) audience self.new out.old out.new result }
     {
         match parse_write(line) {
             Some(Line::Write { txn, item, value }) => self.write(line, txn, item, value, out),
-            _ => self.answer_other(line, audience, out),
+            _ => self.answer_unless_access(line, audience, out),
         }
     }
 
@@ -773,7 +766,6 @@ impl Script {
     ///
     /// Each of the frequent commands has a separate parser, so the kind of a read or a write is a constant in the code that
     /// executes it. The replies to the commands of an update are placed in the buffer.
-    #[tactic(auto, using(crate::proofs::Unread::executed, crate::proofs::Unread::answered))]
     #[inline(always)]
     pub fn answer(
         &mut self,
@@ -781,13 +773,11 @@ impl Script {
         audience: Audience,
         out: &mut TextBuffer,
     ) -> Result<LineOutcome, RunFault>
-        ensures state { EndsIn (answer self.old line.now) self.new result }
-        ensures text { audience ≡ Audience.Somebody
-            → Executes (answer self.old line.now) self.new out.old out.new result }
+        ensures { IsAnsweredBy (answer self.old line.now) audience self.new out.old out.new result }
     {
         match parse_read(line) {
             Some(Line::Read { txn, item }) => self.read(&line[5..], txn, item, out),
-            _ => self.answer_write(line, audience, out),
+            _ => self.answer_unless_read(line, audience, out),
         }
     }
 }

@@ -36,15 +36,17 @@ pub fn replay<R: Read, O: Observer>(
     };
     let mut script = Script::new(alloc, observer.hash_seed());
     let mut out = TextBuffer::new(alloc);
+    let mut lines = 0;
     let ended = answer_lines(
         reader,
         &mut Dropped,
         &mut pending,
+        &mut lines,
         &mut script,
         &mut out,
         observer,
     );
-    observer.see_end();
+    observer.see_end(lines);
     ended?;
     Ok(script)
 }

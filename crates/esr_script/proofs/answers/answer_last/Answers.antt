@@ -11,7 +11,7 @@ returns-then-count-eq-MAX_LINES-clause-held g c input sent left here end plain =
 pub returns-clause-held : goal.returns-clause-held
 returns-clause-held g c input sent left here end plain =
     held_last _ input left _ _ _ sent _ here end plain c.requires.short (is_some _ _ _ c.is_empty.ensures c.if-is_empty.false c.bytes-line.ensures) c.if-count-eq-MAX_LINES.false
-    c.answer.result c.answer.new.script _ (rw c.bytes-line.ensures at c.answer.ensures)
+    c.answer-ended.result c.answer-ended.new.script _ (rw c.bytes-line.ensures at c.answer-ended.ensures)
 
 pub returns-then-count-eq-MAX_LINES-clause-replay : goal.returns-then-count-eq-MAX_LINES-clause-replay
 returns-then-count-eq-MAX_LINES-clause-replay g c input written left here end plain =
@@ -20,4 +20,4 @@ returns-then-count-eq-MAX_LINES-clause-replay g c input written left here end pl
 pub returns-clause-replay : goal.returns-clause-replay
 returns-clause-replay g c input written left here end plain =
     replay_ended input left _ _ _ written here end plain c.requires.short (is_some _ _ _ c.is_empty.ensures c.if-is_empty.false c.bytes-line.ensures) c.if-count-eq-MAX_LINES.false
-    _ c.answer.result c.answer.new.script c.args.out.now c.answer.new.out (rw c.bytes-line.ensures at c.answer.ensures)
+    _ c.answer-ended.result c.answer-ended.new.script c.args.out.now c.answer-ended.new.out (rw c.bytes-line.ensures at c.answer-ended.ensures)

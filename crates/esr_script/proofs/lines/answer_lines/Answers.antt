@@ -15,7 +15,7 @@ lines-init g c = record {
   bound = omega arith;
   reader = c.requires.reader;
   sink = c.requires.sink;
-  text = λ input known. ([], Appends-nil _, at_start input _ _ _ _ known c.requires.pending c.requires.script c.requires.out);
+  text = λ input known. ([], Appends-nil _, rw c.requires.count (at_start input _ _ _ _ known c.requires.pending c.requires.script c.requires.out));
 }
 
 pub returns-in_err-received-clause-text : goal.returns-in_err-received-clause-text

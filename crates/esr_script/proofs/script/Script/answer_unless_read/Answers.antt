@@ -6,8 +6,8 @@ use Rattle.esr_grammar.specs.declared.parse.Line.{Line}
 use Rattle.esr_grammar.specs.Command as command
 use Rattle.esr_grammar.specs.Command.{IsSyntaxOf, view}
 use Rattle.esr_script.specs.Text.{Executes, execute}
-use Rattle.esr_script.proofs.Unread.{executed, answered}
-use Rattle.esr_script.proofs.script.Script.answer_write.Goals as goal
+use Rattle.esr_script.proofs.Unread.{answered}
+use Rattle.esr_script.proofs.script.Script.answer_unless_read.Goals as goal
 
 pub write-requires : goal.write-requires
 write-requires c =
@@ -17,18 +17,10 @@ write-requires c =
     subst (λ (l : Line). IsSyntaxOf c.args.line.now (view l)) write.field-0-is write.ensures.command in
     subst (λ (v : ℤ). c.args.line.now ≡ codes "write " ++ join_with_byte 32 (write.txn.now ∷ write.item.now ∷ signed_decimal v ∷ [])) (sym same) syntax.1
 
-pub returns-in-Some-Write-clause-state : goal.returns-in-Some-Write-clause-state
-returns-in-Some-Write-clause-state c =
-    let write = c.in-Some-Write in
-    let same : to_z w64 (of_z w64 write.value) ≡ write.value = search (rules, to_z-of_z) in
-    executed c.args.self.now c.write.new.self c.args.line.now write.ensures.read.0 (command.write write.txn.now write.item.now write.value)
-    (write.ensures.read.1 ∙ ap (λ (l : Line). Some (view l)) write.field-0-is) c.write.result c.args.out.now c.write.new.out
-    (subst (λ (v : ℤ). Executes (execute c.args.self.now (command.write write.txn.now write.item.now v)) c.write.new.self c.args.out.now c.write.new.out c.write.result) same c.write.ensures)
-
-pub returns-in-Some-Write-clause-text : goal.returns-in-Some-Write-clause-text
-returns-in-Some-Write-clause-text c = λ somebody.
+pub returns-in-Some-Write : goal.returns-in-Some-Write
+returns-in-Some-Write c =
     let write = c.in-Some-Write in
     let same : to_z w64 (of_z w64 write.value) ≡ write.value = search (rules, to_z-of_z) in
     answered c.args.self.now c.write.new.self c.args.line.now write.ensures.read.0 (command.write write.txn.now write.item.now write.value)
-    (write.ensures.read.1 ∙ ap (λ (l : Line). Some (view l)) write.field-0-is) c.write.result c.args.out.now c.write.new.out
+    (write.ensures.read.1 ∙ ap (λ (l : Line). Some (view l)) write.field-0-is) c.args.audience c.write.result c.args.out.now c.write.new.out
     (subst (λ (v : ℤ). Executes (execute c.args.self.now (command.write write.txn.now write.item.now v)) c.write.new.self c.args.out.now c.write.new.out c.write.result) same c.write.ensures)

@@ -3,8 +3,8 @@ use Rattle.esr_grammar.specs.declared.parse.Line.{Line}
 use Rattle.esr_grammar.specs.Command as command
 use Rattle.esr_grammar.specs.Command.{IsSyntaxOf, view}
 use Rattle.esr_script.proofs.Echoes.{is_begin_update_long, begin_words}
-use Rattle.esr_script.proofs.Unread.{executed}
-use Rattle.esr_script.proofs.script.Script.answer_other.Goals as goal
+use Rattle.esr_script.proofs.Unread.{answered}
+use Rattle.esr_script.proofs.script.Script.answer_unless_access.Goals as goal
 
 pub slice_bounds-begin_update-end : goal.slice_bounds-begin_update-end
 slice_bounds-begin_update-end c =
@@ -17,14 +17,14 @@ begin_update-requires c =
     let begin = c.in-Some-BeginUpdate in
     begin_words c.args.line.now begin.name.now begin.limit (subst (λ (l : Line). IsSyntaxOf c.args.line.now (view l)) begin.field-0-is begin.ensures.command)
 
-pub returns-in-Some-BeginUpdate-clause-state : goal.returns-in-Some-BeginUpdate-clause-state
-returns-in-Some-BeginUpdate-clause-state c =
+pub returns-in-Some-BeginUpdate : goal.returns-in-Some-BeginUpdate
+returns-in-Some-BeginUpdate c =
     let begin = c.in-Some-BeginUpdate in
-    executed c.args.self.now c.begin_update.new.self c.args.line.now begin.ensures.read.0 (command.begin_update begin.name.now begin.limit)
-    (begin.ensures.read.1 ∙ ap (λ (l : Line). Some (view l)) begin.field-0-is) c.begin_update.result c.args.out.now c.begin_update.new.out c.begin_update.ensures
+    answered c.args.self.now c.begin_update.new.self c.args.line.now begin.ensures.read.0 (command.begin_update begin.name.now begin.limit)
+    (begin.ensures.read.1 ∙ ap (λ (l : Line). Some (view l)) begin.field-0-is) c.args.audience c.begin_update.result c.args.out.now c.begin_update.new.out c.begin_update.ensures
 
-pub returns-in-Some-Commit-clause-state : goal.returns-in-Some-Commit-clause-state
-returns-in-Some-Commit-clause-state c =
+pub returns-in-Some-Commit : goal.returns-in-Some-Commit
+returns-in-Some-Commit c =
     let commit = c.in-Some-Commit in
-    executed c.args.self.now c.commit.new.self c.args.line.now commit.ensures.read.0 (command.commit commit.txn.now)
-    (commit.ensures.read.1 ∙ ap (λ (l : Line). Some (view l)) commit.field-0-is) c.commit.result c.args.out.now c.commit.new.out c.commit.ensures
+    answered c.args.self.now c.commit.new.self c.args.line.now commit.ensures.read.0 (command.commit commit.txn.now)
+    (commit.ensures.read.1 ∙ ap (λ (l : Line). Some (view l)) commit.field-0-is) c.args.audience c.commit.result c.args.out.now c.commit.new.out c.commit.ensures
