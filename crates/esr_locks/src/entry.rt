@@ -63,6 +63,16 @@ fn writer_unless(writer: Option<TxnId>, t: TxnId) -> Option<TxnId>
     }
 }
 
+/// Releases the write lock of `t`, if it is the writer.
+#[inline(always)]
+fn release_writer(writer: &mut Option<TxnId>, t: TxnId)
+    ensures { writer.new ≡ (if unwrap_or (option_map (λ u. u.0 == t.0) writer.old) false then None else writer.old) }
+{
+    if writer_is(*writer, t) {
+        *writer = None;
+    }
+}
+
 /// Returns the smaller of two ids, either of which may be absent.
 fn smaller_of(a: Option<TxnId>, b: Option<TxnId>) -> Option<TxnId>
     ensures { (p q : ℕ → Bool) → IsSmallest p (option_map (λ u. u.0) a) → IsSmallest q (option_map (λ u. u.0) b)
@@ -208,7 +218,7 @@ impl LockEntry {
     pub fn release(&mut self, t: TxnId)
         ensures { self.new.locks ≡ released t.0 self.old.locks }
     {
-        self.writer = writer_unless(self.writer, t);
+        release_writer(&mut self.writer, t);
         self.readers.remove_txn(t);
         self.queries.remove_txn(t);
     }

@@ -15,9 +15,9 @@ other_writer (Some u) t = grind (arith, common_steps)
 
 pub returns : goal.returns
 returns c =
-    subst (λ (v : LockEntryModel). record { writer = option_map (λ u. u.0) c.writer_unless-self-inside.result; readers = map (λ r. r.update.0) c.remove_txn.new.self.items; queries = map query_and_count c.remove_txn-2.new.self.items } ≡ released c.args.t.0 v.locks) c.self.view_is
-    (let w : option_map (λ u. u.0) c.writer_unless-self-inside.result ≡ (if unwrap_or (option_map (λ u. u == c.args.t.0) (option_map (λ u. u.0) c.self.inside.writer)) false then None else option_map (λ u. u.0) c.self.inside.writer) =
-    ap (option_map (λ (u : TxnId). u.0)) c.writer_unless-self-inside.ensures ∙ other_writer c.self.inside.writer c.args.t.0 in
+    subst (λ (v : LockEntryModel). record { writer = option_map (λ u. u.0) c.release_writer.new.writer; readers = map (λ r. r.update.0) c.remove_txn.new.self.items; queries = map query_and_count c.remove_txn-2.new.self.items } ≡ released c.args.t.0 v.locks) c.self.view_is
+    (let w : option_map (λ u. u.0) c.release_writer.new.writer ≡ (if unwrap_or (option_map (λ u. u == c.args.t.0) (option_map (λ u. u.0) c.self.inside.writer)) false then None else option_map (λ u. u.0) c.self.inside.writer) =
+    ap (option_map (λ (u : TxnId). u.0)) c.release_writer.ensures ∙ other_writer c.self.inside.writer c.args.t.0 in
     let r : map (λ r. r.update.0) c.remove_txn.new.self.items ≡ filter (λ u. not (u == c.args.t.0)) (map (λ r. r.update.0) c.self.inside.readers.items) =
     rw c.remove_txn.ensures (map-others (λ r. r.update.0) (λ u. u) (λ r. r.update.0) (λ r. refl) c.args.t.0 c.self.inside.readers.items) in
     let q : map query_and_count c.remove_txn-2.new.self.items ≡ filter (λ (p : ℕ × ℕ). not (p.0 == c.args.t.0)) (map query_and_count c.self.inside.queries.items) =
