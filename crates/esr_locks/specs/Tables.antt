@@ -93,7 +93,7 @@ abbrev pub has_lock_unlike : BeginKind → ItemLocks → ℕ → Bool
 has_lock_unlike Query l t = has_update_lock l t
 has_lock_unlike Update l t = has_query_lock l t
 
--- the same for a transaction whose kind may be unknown
+-- whether it has a lock that its kind does not take, if the kind is known
 abbrev pub has_other_lock : Option BeginKind → ItemLocks → ℕ → Bool
 has_other_lock None l t = false
 has_other_lock (Some kind) l t = has_lock_unlike kind l t

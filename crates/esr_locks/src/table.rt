@@ -120,8 +120,8 @@ fn clear_list(by_transaction: &mut Vec<LockedItems>, alloc: Global, t: TxnId)
     }
 }
 
-/// Releases the locks of a transaction on the items. If its kind is known, it has no lock that this kind does not take. The
-/// kind is the same for all items, so that the compiler makes a loop for each.
+/// Releases the locks of a transaction on the items. If its kind is known, it has no lock that this kind does not take. It is
+/// inlined, so that the compiler tests the kind before the loop.
 #[inline(always)]
 fn release_each(entries: &mut Vec<LockEntry>, items: &[ItemId], t: TxnId, kind: Option<BeginKind>)
     requires in_range { All (λ i. i.0 < length entries.old.items) items.now }
