@@ -1,5 +1,5 @@
 -- A transaction has only locks that its kind takes.
-use Rattle.std.proofs.Common.{◌≡◌, ℕ, ◌<◌, List, [], ◌∷◌, length, Bool, true, false, ◌&&◌, ◌||◌, ◌==◌, sym, ◌∙◌, ap, subst, refl, Option, None, Some, if◌then◌else◌}
+use Rattle.std.proofs.Common.{◌≡◌, ℕ, ◌<◌, List, [], ◌∷◌, length, Bool, true, false, ◌&&◌, ◌||◌, ◌==◌, sym, ◌∙◌, ap, subst, refl, None, Some, if◌then◌else◌}
 use Rattle.std.specs.List.{list_any, filter_map, cons_option}
 use Rattle.std.proofs.lemmas.Bool.{false≢true, false_from_ne_true, ne_eqb, and_parts}
 use Rattle.esr_core.specs.Types.{Versions}
