@@ -290,6 +290,7 @@ impl LockTable {
     }
 
     /// Adds the read lock of a query, or increments its number of reads; the first read lists the item.
+    #[inline(always)]
     pub fn add_read_query(&mut self, q: TxnId, x: ItemId)
         requires item { x.0 < length self.old.locks }
         requires spare_capacity { 0 < spare_lock_capacity self.old q.0 x.0 }
