@@ -190,6 +190,7 @@ impl LockEntry {
     }
 
     /// Adds a read by a query. Returns whether the query had not read the item.
+    #[inline(always)]
     fn add_query_read(&mut self, q: TxnId) -> bool
         requires spare_capacity { 0 < self.old.spare_capacity }
         requires count_within_max { All (λ r. r.0 ≡ q.0 → r.1 < MAX_READS) self.old.locks.queries }

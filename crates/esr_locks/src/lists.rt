@@ -167,6 +167,7 @@ pub fn add_reader(readers: &mut Readers, t: TxnId) -> bool
 }
 
 /// Counts one more read of a query. Returns whether it is the first.
+#[inline(always)]
 pub fn count_read(queries: &mut Queries, q: TxnId) -> bool
     requires ascending { IsAscendingBy (λ r. r.query.0) queries.old.items }
     requires spare_capacity { HasRoomFor queries.old 1 }
