@@ -41,25 +41,37 @@ pub fn place_of(accounts: &[Account], t: TxnId) -> Result<usize, usize>
     accounts.binary_search_by_key(&t.0, |a| a.number.0)
 }
 
-/// Returns the index of a transaction's account. Accounts are usually opened for 1, 2, 3 and so on, so it looks there
-/// first.
-fn index_of(accounts: &[Account], t: TxnId) -> usize
+/// Returns the index of a transaction's account by a search.
+#[cold]
+#[inline(never)]
+fn search_account(accounts: &[Account], t: TxnId) -> usize
     requires ascending { IsAscendingBy number accounts.now }
     requires open { is_open accounts.now t.0 ≡ true }
     ensures { IsPlaceOf number accounts.now t.0 result }
 {
-    let dense = (t.0 as usize).saturating_sub(1);
-    if dense < accounts.len() && accounts[dense].number == t {
-        return dense;
-    }
-    // the caller may have left numbers out
     match place_of(accounts, t) {
         Ok(at) => at,
         Err(_) => unreachable!(),
     }
 }
 
+/// Returns the index of a transaction's account. Accounts are usually opened for 1, 2, 3 and so on, so it looks there
+/// first. The search is a separate function, because a caller may leave numbers out, but most do not.
+#[inline(always)]
+fn index_of(accounts: &[Account], t: TxnId) -> usize
+    requires ascending { IsAscendingBy number accounts.now }
+    requires open { is_open accounts.now t.0 ≡ true }
+    ensures { IsPlaceOf number accounts.now t.0 result }
+{
+    let dense = (t.0 as usize).wrapping_sub(1);
+    if dense < accounts.len() && accounts[dense].number == t {
+        return dense;
+    }
+    search_account(accounts, t)
+}
+
 /// Returns the account of a transaction.
+#[inline(always)]
 pub fn find_account(accounts: &[Account], t: TxnId) -> Account
     requires ascending { IsAscendingBy number accounts.now }
     requires open { is_open accounts.now t.0 ≡ true }
@@ -69,6 +81,7 @@ pub fn find_account(accounts: &[Account], t: TxnId) -> Account
 }
 
 /// Adds an amount to the account of a transaction.
+#[inline(always)]
 pub fn raise(accounts: &mut Vec<Account>, t: TxnId, amount: u64)
     requires ascending { IsAscendingBy number accounts.old.items }
     requires open { is_open accounts.old.items t.0 ≡ true }

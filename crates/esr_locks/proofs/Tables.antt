@@ -8,12 +8,14 @@ use Rattle.std.proofs.lemmas.List.Elements.{All-nil, All-push}
 use Rattle.std.proofs.lemmas.List.FromFn.{length-range_with_len, get_or-map-range_with_len, map-range_with_len_more}
 use Rattle.esr_base.specs.declared.numbers.ItemId.{ItemId}
 use Rattle.esr_base.specs.declared.numbers.TxnId.{TxnId}
+use Rattle.esr_history.specs.declared.event.BeginKind.{BeginKind}
+use Rattle.esr_history.specs.declared.event.BeginKind.TheVariants.{Query, Update}
 use Rattle.esr_history.specs.ItemLocks.{ItemLocks}
 use Rattle.esr_history.proofs.Ascending.{any_placed}
 use Rattle.esr_history.proofs.Lists.{any_push, or_false}
 use Rattle.esr_locks.specs.Modes.{Mode, Read, Write, QueryRead}
 use Rattle.esr_locks.specs.LockEntries.{LockEntryModel, LockedItemsModel, empty_list, empty_entry, entry_at, items_locked_by, IsLockTable, with_lock, has_lock_in_mode}
-use Rattle.esr_locks.specs.Tables.{no_locks, locks_at, is_writer, is_reader, has_query_lock, has_lock, released, contains_item}
+use Rattle.esr_locks.specs.Tables.{no_locks, locks_at, is_writer, is_reader, has_update_lock, has_query_lock, has_lock, released, released_update, released_query, has_other_lock, contains_item}
 
 -- the locks at an item, by the rows
 pub locks_at-entries : (entries : List LockEntryModel) (x : ℕ) → x < length entries → locks_at (map (λ r. r.locks) entries) x ≡ (entry_at entries x).locks
@@ -104,6 +106,15 @@ released_none t l none =
     let b : (is_reader l t ≡ false) × (has_query_lock l t ≡ false) = or_parts (is_reader l t) (has_query_lock l t) a.1 in
     rw (a.0, list_any_none (λ u. u == t) l.readers b.0, list_any_none (λ (r : ℕ × ℕ). r.0 == t) l.queries b.1) refl
 
+-- a transaction that has no lock of the other kind releases all its locks with those of its kind
+pub released_as_update : (t : ℕ) (l : ItemLocks) → has_query_lock l t ≡ false → released_update t l ≡ released t l
+released_as_update t l none = rw (list_any_none (λ (r : ℕ × ℕ). r.0 == t) l.queries none) refl
+
+pub released_as_query : (t : ℕ) (l : ItemLocks) → has_update_lock l t ≡ false → released_query t l ≡ released t l
+released_as_query t l none =
+    let parts : (is_writer l t ≡ false) × (is_reader l t ≡ false) = or_parts (is_writer l t) (is_reader l t) none in
+    rw (parts.0, list_any_none (λ u. u == t) l.readers parts.1) refl
+
 any_filter : {X : Type 0} (p q : X → Bool) (xs : List X) → list_any p (filter q xs) ≡ true → list_any p xs ≡ true
 any_filter p q [] is = absurd (false≢true is)
 any_filter p q (x ∷ xs) is =
@@ -126,6 +137,17 @@ released_gone t l = rw (writer_gone l.writer, none_left (λ u. u == t) l.readers
     writer_gone : (w : Option ℕ) → unwrap_or (option_map (λ u. u == t) (if unwrap_or (option_map (λ u. u == t) w) false then None else w)) false ≡ false
     writer_gone None = refl
     writer_gone (Some u) = grind (arith, cases_Bool (u == t))
+
+-- after its release a transaction still has no lock of the other kind
+pub no_other_then : (kind : Option BeginKind) (t : ℕ) (l : ItemLocks) (b : Bool) → has_other_lock kind l t ≡ false → has_other_lock kind (if b then released t l else l) t ≡ false
+no_other_then None t l b none = refl
+no_other_then (Some kind) t l false none = none
+no_other_then (Some Query) t l true none =
+    let a = or_parts (is_writer (released t l) t) (is_reader (released t l) t || has_query_lock (released t l) t) (released_gone t l) in
+    rw (a.0, (or_parts (is_reader (released t l) t) (has_query_lock (released t l) t) a.1).0) refl
+no_other_then (Some Update) t l true none =
+    let a = or_parts (is_writer (released t l) t) (is_reader (released t l) t || has_query_lock (released t l) t) (released_gone t l) in
+    (or_parts (is_reader (released t l) t) (has_query_lock (released t l) t) a.1).1
 
 pub released_less : (t u : ℕ) (l : ItemLocks) → has_lock (released t l) u ≡ true → has_lock l u ≡ true
 released_less t u l is =

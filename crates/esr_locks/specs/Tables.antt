@@ -1,7 +1,9 @@
 -- The locks on items: their holders, and the effect of one more lock and of a release.
-use Rattle.std.specs.Prelude.{ℕ, ◌+◌, List, [], Bool, false, not, ◌&&◌, ◌||◌, ◌==◌, None, Some, unwrap_or, filter, slice_index_or, slice_index, min, if◌then◌else◌, option_map}
+use Rattle.std.specs.Prelude.{ℕ, ◌+◌, List, [], Bool, false, not, ◌&&◌, ◌||◌, ◌==◌, Option, None, Some, unwrap_or, filter, slice_index_or, slice_index, min, if◌then◌else◌, option_map}
 use Rattle.std.specs.List.{list_any}
 use Rattle.esr_base.specs.declared.numbers.ItemId.{ItemId}
+use Rattle.esr_history.specs.declared.event.BeginKind.{BeginKind}
+use Rattle.esr_history.specs.declared.event.BeginKind.TheVariants.{Query, Update}
 use Rattle.esr_history.specs.ItemLocks.{ItemLocks}
 use Rattle.esr_history.specs.Ascending.{upserted}
 use Rattle.esr_locks.specs.Modes.{Mode, Read, Write, conflicts}
@@ -74,6 +76,27 @@ released t l = record {
   readers = filter (λ u. not (u == t)) l.readers;
   queries = filter (λ r. not (r.0 == t)) l.queries;
 }
+
+-- the locks after transaction t has released those of an update, and those of a query
+abbrev pub released_update : ℕ → ItemLocks → ItemLocks
+released_update t l = record l {
+  writer = if is_writer l t then None else l.writer;
+  readers = filter (λ u. not (u == t)) l.readers;
+}
+
+abbrev pub released_query : ℕ → ItemLocks → ItemLocks
+released_query t l = record l { queries = filter (λ r. not (r.0 == t)) l.queries }
+
+-- whether transaction t has a lock on the item that its kind does not take: a query that of an update, an update that
+-- of a query
+abbrev pub has_lock_unlike : BeginKind → ItemLocks → ℕ → Bool
+has_lock_unlike Query l t = has_update_lock l t
+has_lock_unlike Update l t = has_query_lock l t
+
+-- whether it has a lock that its kind does not take, if the kind is known
+abbrev pub has_other_lock : Option BeginKind → ItemLocks → ℕ → Bool
+has_other_lock None l t = false
+has_other_lock (Some kind) l t = has_lock_unlike kind l t
 
 -- whether an item is among those listed
 abbrev pub contains_item : List ItemId → ℕ → Bool

@@ -256,19 +256,28 @@ impl<R: MadeWith<Global> + Copy + Drop, const N: usize> AscendingList<R, N> {
         self.elements[self.removed + at] = element;
     }
 
+    /// Removes the element at an index of a list that is long or stores removed elements.
+    #[inline(never)]
+    fn remove_from_long(&mut self, at: usize)
+        requires { at < length self.old.items }
+        ensures { self.new.items ≡ remove self.old.items at }
+    {
+        let removed = remove_lazily(&mut self.elements, self.removed, at);
+        self.removed = compact(&mut self.elements, removed);
+    }
+
     /// Removes the element at an index. Most lists are short and store no removed element: then nothing is counted, and
     /// the elements stay at the front.
-    #[inline(never)]
+    #[inline(always)]
     fn remove(&mut self, at: usize)
         requires { at < length self.old.items }
         ensures { self.new.items ≡ remove self.old.items at }
     {
         if self.removed == 0 && self.elements.len() <= MAX_SHORT {
             remove_from_short(&mut self.elements, at);
-            return;
+        } else {
+            self.remove_from_long(at);
         }
-        let removed = remove_lazily(&mut self.elements, self.removed, at);
-        self.removed = compact(&mut self.elements, removed);
     }
 }
 
@@ -289,7 +298,7 @@ impl<R: Numbered + MadeWith<Global> + Copy + Drop, const N: usize> AscendingList
     }
 
     /// Removes a transaction's element, if there is one. Most lists have at most one element, and need no search. In most
-    /// others there is none, since a release looks for an update among the queries too; so the removal is a separate function.
+    /// others there is none, since a release looks for an update among the queries too.
     #[inline(always)]
     pub fn remove_txn(&mut self, t: TxnId)
         requires { IsAscendingBy R.number self.old.items }

@@ -8,13 +8,13 @@ ghost use Rattle.esr_base.specs.declared.limits.TheConstants.{MAX_READS};
 ghost use Rattle.esr_history.specs.Ascending.{IsAscendingBy, IsSmallest};
 ghost use Rattle.esr_locks.specs.Modes.{conflicts};
 ghost use Rattle.esr_locks.specs.LockEntries.{query_and_count, with_lock, has_lock_in_mode, LockEntryModel};
-ghost use Rattle.esr_locks.specs.Tables.{no_locks, is_writer, is_reader, has_update_lock, has_query_lock, blocks, with_reader, with_writer, with_query_read, released};
+ghost use Rattle.esr_locks.specs.Tables.{no_locks, is_writer, is_reader, has_update_lock, has_query_lock, blocks, with_reader, with_writer, with_query_read, released, released_update, released_query, has_other_lock};
 ghost use Rattle.std.specs.List.{AllByRecursion};
 ghost use Rattle.std.specs.Option.{option_map};
 
 use crate::lists::{Queries, QueryReads, Readers, add_reader, count_read, is_reader, other_reader};
 use crate::mode::{Mode, conflicts};
-use esr_history::TxnId;
+use esr_history::{BeginKind, TxnId};
 use std::alloc::{AllocError, Global};
 use std::marker::Model;
 
@@ -60,6 +60,16 @@ fn writer_unless(writer: Option<TxnId>, t: TxnId) -> Option<TxnId>
     match writer {
         Some(u) if u.0 != t.0 => Some(u),
         _ => None,
+    }
+}
+
+/// Releases the write lock of `t`, if it is the writer.
+#[inline(always)]
+fn release_writer(writer: &mut Option<TxnId>, t: TxnId)
+    ensures { writer.new ≡ (if unwrap_or (option_map (λ u. u.0 == t.0) writer.old) false then None else writer.old) }
+{
+    if writer_is(*writer, t) {
+        *writer = None;
     }
 }
 
@@ -180,6 +190,7 @@ impl LockEntry {
     }
 
     /// Adds a read by a query. Returns whether the query had not read the item.
+    #[inline(always)]
     fn add_query_read(&mut self, q: TxnId) -> bool
         requires spare_capacity { 0 < self.old.spare_capacity }
         requires count_within_max { All (λ r. r.0 ≡ q.0 → r.1 < MAX_READS) self.old.locks.queries }
@@ -204,12 +215,36 @@ impl LockEntry {
         }
     }
 
-    /// Drops the locks of a transaction.
-    pub fn release(&mut self, t: TxnId)
+    /// Drops the locks of a transaction as an update.
+    #[inline(always)]
+    fn release_update(&mut self, t: TxnId)
+        ensures { self.new.locks ≡ released_update t.0 self.old.locks }
+    {
+        release_writer(&mut self.writer, t);
+        self.readers.remove_txn(t);
+    }
+
+    /// Drops the locks of a transaction as a query.
+    #[inline(always)]
+    fn release_query(&mut self, t: TxnId)
+        ensures { self.new.locks ≡ released_query t.0 self.old.locks }
+    {
+        self.queries.remove_txn(t);
+    }
+
+    /// Drops the locks of a transaction. If its kind is known, it has no lock that this kind does not take.
+    #[inline(always)]
+    pub fn release(&mut self, t: TxnId, kind: Option<BeginKind>)
+        requires { has_other_lock kind self.old.locks t.0 ≡ false }
         ensures { self.new.locks ≡ released t.0 self.old.locks }
     {
-        self.writer = writer_unless(self.writer, t);
-        self.readers.remove_txn(t);
-        self.queries.remove_txn(t);
+        match kind {
+            Some(BeginKind::Query) => self.release_query(t),
+            Some(BeginKind::Update) => self.release_update(t),
+            None => {
+                self.release_update(t);
+                self.release_query(t);
+            }
+        }
     }
 }

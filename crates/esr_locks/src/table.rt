@@ -8,18 +8,18 @@
 //! calls one of them and it usually finds spare capacity. Growth is a separate function, so that the usual path does not pay
 //! for its locals.
 
-ghost use Rattle.std.specs.Prelude.{◌≡◌, ℕ, ◌<◌, ◌≤◌, ◌≢◌, ◌==◌, [], length, map, All, IfOk, OnOk, OnErr, slice_index, slice_set, true, if◌then◌else◌, option_map};
+ghost use Rattle.std.specs.Prelude.{◌≡◌, ℕ, ◌<◌, ◌≤◌, ◌≢◌, ◌==◌, [], length, map, All, false, IfOk, OnOk, OnErr, slice_index, slice_set, true, if◌then◌else◌, option_map};
 ghost use Rattle.std.specs.List.{range_with_len};
 ghost use Rattle.esr_base.specs.declared.limits.TheConstants.{MAX_READS};
 ghost use Rattle.esr_history.specs.Ascending.{IsAscendingBy, IsSmallest};
 ghost use Rattle.esr_locks.specs.LockEntries.{query_and_count, entry_at, items_locked_by, with_lock, has_lock_in_mode, IsLockTable};
-ghost use Rattle.esr_locks.specs.Tables.{no_locks, locks_at, spare_list_capacity, spare_lock_capacity, has_lock, has_update_lock, has_query_lock, contains_item, blocks_read, blocks_write, with_reader, with_writer, with_query_read, released, LockTableModel};
+ghost use Rattle.esr_locks.specs.Tables.{no_locks, locks_at, spare_list_capacity, spare_lock_capacity, has_lock, has_update_lock, has_query_lock, contains_item, blocks_read, blocks_write, with_reader, with_writer, with_query_read, released, has_lock_unlike, has_other_lock, LockTableModel};
 
 use crate::entry::LockEntry;
 use crate::lists::QueryReads;
 use crate::locked_items::LockedItems;
 use crate::mode::Mode;
-use esr_history::{NoMemory, TxnId};
+use esr_history::{BeginKind, NoMemory, TxnId};
 use esr_items::ItemId;
 use std::alloc::{AllocError, Global};
 use std::marker::Model;
@@ -120,16 +120,20 @@ fn clear_list(by_transaction: &mut Vec<LockedItems>, alloc: Global, t: TxnId)
     }
 }
 
-/// Releases the locks of a transaction on the items.
-fn release_each(entries: &mut Vec<LockEntry>, items: &[ItemId], t: TxnId)
-    requires { All (λ i. i.0 < length entries.old.items) items.now }
+/// Releases the locks of a transaction on the items. If its kind is known, it has no lock that this kind does not take. It is
+/// inlined, so that the compiler tests the kind before the loop.
+#[inline(always)]
+fn release_each(entries: &mut Vec<LockEntry>, items: &[ItemId], t: TxnId, kind: Option<BeginKind>)
+    requires in_range { All (λ i. i.0 < length entries.old.items) items.now }
+    requires of_kind { (x : ℕ) → x < length entries.old.items
+        → has_other_lock kind (entry_at entries.old.items x).locks t.0 ≡ false }
     ensures len { length entries.new.items ≡ length entries.old.items }
     ensures locks { (x : ℕ) → x < length entries.old.items
         → (entry_at entries.new.items x).locks ≡ (if contains_item items.now x then released t.0
         (entry_at entries.old.items x).locks else (entry_at entries.old.items x).locks) }
 {
     for x in items {
-        entries[x.0 as usize].release(t);
+        entries[x.0 as usize].release(t, kind);
     }
 }
 
@@ -286,6 +290,7 @@ impl LockTable {
     }
 
     /// Adds the read lock of a query, or increments its number of reads; the first read lists the item.
+    #[inline(always)]
     pub fn add_read_query(&mut self, q: TxnId, x: ItemId)
         requires item { x.0 < length self.old.locks }
         requires spare_capacity { 0 < spare_lock_capacity self.old q.0 x.0 }
@@ -296,15 +301,34 @@ impl LockTable {
         self.add(q, x, Mode::QueryRead);
     }
 
-    /// Releases all locks of a transaction.
-    pub fn release(&mut self, t: TxnId)
+    /// Releases all locks of a transaction. If its kind is known, it has no lock that this kind does not take.
+    #[inline(always)]
+    fn release_listed(&mut self, t: TxnId, kind: Option<BeginKind>)
+        requires { (x : ℕ) → x < length self.old.locks → has_other_lock kind (locks_at self.old.locks x) t.0 ≡ false }
         ensures { self.new.locks ≡ map (released t.0) self.old.locks }
     {
         release_each(
             &mut self.entries,
             locked_items_of(&self.by_transaction, t),
             t,
+            kind,
         );
         clear_list(&mut self.by_transaction, self.alloc, t);
+    }
+
+    /// Releases all locks of a transaction.
+    pub fn release(&mut self, t: TxnId)
+        ensures { self.new.locks ≡ map (released t.0) self.old.locks }
+    {
+        self.release_listed(t, None);
+    }
+
+    /// Releases all locks of a transaction of this kind. A query has only locks of queries, and an update none of them, so
+    /// that the other locks on its items need not be searched.
+    pub fn release_as(&mut self, t: TxnId, kind: BeginKind)
+        requires { (x : ℕ) → x < length self.old.locks → has_lock_unlike kind (locks_at self.old.locks x) t.0 ≡ false }
+        ensures { self.new.locks ≡ map (released t.0) self.old.locks }
+    {
+        self.release_listed(t, Some(kind));
     }
 }

@@ -8,11 +8,13 @@ use Rattle.esr_core.specs.declared.state.State.{State}
 use Rattle.esr_core.specs.States.{IsStateOf, end_event, keeps}
 use Rattle.esr_core.proofs.Answered.{accepted_state}
 use Rattle.esr_core.proofs.Representing.{by, represents-end}
+use Rattle.esr_core.proofs.Reasons.{row_query}
+use Rattle.esr_core.proofs.Releases.{no_lock_unlike}
 use Rattle.esr_core.proofs.state.State.end.Goals as goal
 use Rattle.esr_core.proofs.state.State.end.Goals.{After-end_row}
 
 abbrev state : After-end_row → State
-state c = record { items = c.settle_all.new.items; transactions = c.end_row.new.rows; locks = c.release.new.self; ledgers = c.args.self.now.ledgers }
+state c = record { items = c.settle_all.new.items; transactions = c.end_row.new.rows; locks = c.release_as.new.self; ledgers = c.args.self.now.ledgers }
 
 -- the reply that an end is owed
 answered : (c : After-end_row) (d : DistanceFunction) (h : Schedule) (r : Reply) → r ≡ acceptance h (end_event (keeps c.args.end) c.args.t) → IsStateOf d h c.args.self.now
@@ -26,10 +28,19 @@ answered c d h r is rep =
     let act : is_active (accepted_in h) c.args.t.0 ≡ true = not_ended h c.args.t.0 (end_allowed h c.args.t (none_applies (not_begun h c.args.t.0 ∷ ended h c.args.t.0 ∷ []) none)).active in
     let row = c.end_row.ensures (c.args.t.0 - 1) (omega arith) in
     let kept = represents-end (d h.weights) h.opening (accepted_in h) s.items s.transactions.items s.locks.locks s.ledgers rep (keeps c.args.end) c.args.t (c.args.t.0 - 1) row.0 c.settle_all.new.items act (follows d h rep.orderly e free) (omega arith) (omega arith) row.1 c.settle_all.ensures.len c.settle_all.ensures.current c.settle_all.ensures.committed in
-    accepted_state d h e r (state c) free is (rw (row.2, c.release.ensures) kept)
+    accepted_state d h e r (state c) free is (rw (row.2, c.release_as.ensures) kept)
 
 pub returns-in-Commit : goal.returns-in-Commit
 returns-in-Commit c = λ d weights h same rep. answered (goal.at.returns-in-Commit c).After-end_row d h Committed (rw c.in-Commit.is refl) rep
 
 pub returns-in-Abort : goal.returns-in-Abort
 returns-in-Abort c = λ d weights h same rep. answered (goal.at.returns-in-Abort c).After-end_row d h Aborted (rw c.in-Abort.is refl) rep
+
+pub release_as-requires : goal.release_as-requires
+release_as-requires c =
+    let d = c.requires.reached.0 in
+    let h = c.requires.reached.1 in
+    let rep = c.requires.reached.2 in
+    let s = c.args.self.now in
+    no_lock_unlike d h s.items s.transactions.items s.locks.locks s.ledgers rep c.args.t.0 c.transaction-row.result.kind
+    (row_query d h s.items s.transactions.items s.locks.locks s.ledgers rep c.args.t.0 c.transaction-row.result c.in_default.ensures.ready c.transaction-row.ensures)

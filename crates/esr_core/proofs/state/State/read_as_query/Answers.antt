@@ -1,34 +1,38 @@
-use Rattle.std.proofs.Common.{◌≡◌, ◌<◌, ◌∙◌, sym, ap, None, length, rules, FitsSigned, w64, to_z, of_z}
-use Rattle.std.proofs.lemmas.Int.{to_z-of_z}
-use Rattle.esr_items.specs.Values.{versions_at}
-use Rattle.esr_core.specs.Types.{Read, Value}
-use Rattle.esr_history.specs.Imports.{imported}
-use Rattle.esr_history.specs.Machine.{accepted_in, refusal}
-use Rattle.esr_locks.specs.Tables.{locks_at}
-use Rattle.esr_core.specs.Represented.{Represents}
-use Rattle.esr_core.specs.States.{read_charge, charges_for}
-use Rattle.esr_core.proofs.Answered.{accepted_state}
-use Rattle.esr_core.proofs.Dues.{read_imports}
-use Rattle.esr_core.proofs.Reasons.{read_query}
+use Rattle.std.proofs.Common.{true, None, Some}
+use Rattle.esr_history.specs.Machine.{Schedule}
+use Rattle.esr_core.specs.States.{IsReadBy, IsReadCharge}
 use Rattle.esr_core.proofs.state.State.read_as_query.Goals as goal
 
-pub returns-clause-answers : goal.returns-clause-answers
-returns-clause-answers g c = λ h same rep by.
-    let d = g.M.Metric.distance_by in
-    let s = c.args.self.now in
-    let is : c.charge_of_read-charge.result ≡ read_charge (d h.weights c.args.x.0) (versions_at s.items c.args.x.0) (locks_at s.locks.locks c.args.x.0).writer = rw same c.charge_of_read-charge.ensures in
-    let free : refusal d h (Read c.args.q c.args.x) ≡ None = sym (c.in_default.ensures d h c.args.x rep (by.0, c.requires.item, is) ∙ read_query d h s.items s.transactions.items s.locks.locks s.ledgers rep c.args.q c.args.x by.0 by.1 by.2) in
-    let reserved : Represents (d h.weights) h.opening (accepted_in h) s.items s.transactions.items c.reserve.new.self.locks s.ledgers = rw c.in_ok-reserve.ensures.locks rep in
-    let charge : c.charge_of_read-charge.result ≡ read_charge (d h.weights c.args.x.0) (versions_at s.items c.args.x.0) (locks_at c.reserve.new.self.locks c.args.x.0).writer = rw c.in_ok-reserve.ensures.locks is in
-    let inside : c.args.x.0 < length h.opening = rw (← rep.count) c.requires.item in
-    let fits : FitsSigned w64 c.read-current.result = search rules in
-    accepted_state d h (Read c.args.q c.args.x) (Value (to_z w64 (of_z w64 c.read-current.result))) c.read_as_charged.new.self free
-    (ap Value (to_z-of_z w64 c.read-current.result fits ∙ (c.read-current.ensures.value ∙ rep.current c.args.x.0 inside)))
-    (c.read_as_charged.ensures.represents d h reserved (by.0, c.requires.item, charge) free)
+pub read_of_written-requires-clause-reached : goal.read_of_written-requires-clause-reached
+read_of_written-requires-clause-reached g c =
+    let h : Schedule = c.requires.reached.0 in
+    let by : IsReadBy true h c.args.q c.args.x = c.requires.reached.2 in
+    let charge : IsReadCharge g.M.Metric.distance_by h c.args.self.now c.args.q c.args.x (Some c.in-Some.charge) = (by.0, c.requires.item, rw c.requires.reached.1 c.in-Some.ensures) in
+    (g.M.Metric.distance_by, h, charge, by, c.requires.reached.3)
 
-pub returns-clause-charged : goal.returns-clause-charged
-returns-clause-charged g c = λ h same rep by ok t.
-    let d = g.M.Metric.distance_by in
-    let s = c.args.self.now in
-    let is : c.charge_of_read-charge.result ≡ read_charge (d h.weights c.args.x.0) (versions_at s.items c.args.x.0) (locks_at s.locks.locks c.args.x.0).writer = rw same c.charge_of_read-charge.ensures in
-    ap (λ cs. imported cs t) (c.in_ok-collect_charge.ensures ∙ ap (charges_for c.args.q) is) ∙ read_imports d h s.items s.transactions.items s.locks.locks s.ledgers rep c.args.q c.args.x by.0 c.requires.item t
+pub returns-in-Some-clause-answers : goal.returns-in-Some-clause-answers
+returns-in-Some-clause-answers g c = λ h same rep by.
+    let charge : IsReadCharge g.M.Metric.distance_by h c.args.self.now c.args.q c.args.x (Some c.in-Some.charge) = (by.0, c.requires.item, rw same c.in-Some.ensures) in
+    c.read_of_written.ensures.answers g.M.Metric.distance_by h rep by charge
+
+pub returns-in-Some-clause-charged : goal.returns-in-Some-clause-charged
+returns-in-Some-clause-charged g c = λ h same rep by.
+    let charge : IsReadCharge g.M.Metric.distance_by h c.args.self.now c.args.q c.args.x (Some c.in-Some.charge) = (by.0, c.requires.item, rw same c.in-Some.ensures) in
+    c.read_of_written.ensures.charged g.M.Metric.distance_by h rep by charge
+
+pub read_with_charge-requires-clause-reached : goal.read_with_charge-requires-clause-reached
+read_with_charge-requires-clause-reached g c =
+    let h : Schedule = c.requires.reached.0 in
+    let by : IsReadBy true h c.args.q c.args.x = c.requires.reached.2 in
+    let charge : IsReadCharge g.M.Metric.distance_by h c.args.self.now c.args.q c.args.x None = (by.0, c.requires.item, rw c.requires.reached.1 c.in-None.ensures) in
+    (g.M.Metric.distance_by, h, charge, by, c.requires.reached.3)
+
+pub returns-in-None-clause-answers : goal.returns-in-None-clause-answers
+returns-in-None-clause-answers g c = λ h same rep by.
+    let charge : IsReadCharge g.M.Metric.distance_by h c.args.self.now c.args.q c.args.x None = (by.0, c.requires.item, rw same c.in-None.ensures) in
+    c.read_with_charge.ensures.answers g.M.Metric.distance_by h rep by charge
+
+pub returns-in-None-clause-charged : goal.returns-in-None-clause-charged
+returns-in-None-clause-charged g c = λ h same rep by.
+    let charge : IsReadCharge g.M.Metric.distance_by h c.args.self.now c.args.q c.args.x None = (by.0, c.requires.item, rw same c.in-None.ensures) in
+    c.read_with_charge.ensures.charged g.M.Metric.distance_by h rep by charge

@@ -1,25 +1,23 @@
-use Rattle.std.proofs.Common.{◌≡◌, ◌∙◌, ap, subst, refl, not, ℕ, map, ◌==◌, false, Option, None, Some, if◌then◌else◌, arith, filter, unwrap_or, option_map}
-use Rattle.esr_base.specs.declared.numbers.TxnId.{TxnId}
-use Rattle.esr_history.proofs.Ascending.{filter_ascends, all_filter, map-others}
-use Rattle.esr_locks.specs.LockEntries.{LockEntryModel, query_and_count}
-use Rattle.esr_locks.specs.Tables.{released}
+use Rattle.std.proofs.Common.{◌≡◌, ◌∙◌, ap, subst, false, Option}
+use Rattle.esr_history.specs.declared.event.BeginKind.{BeginKind}
+use Rattle.esr_history.specs.declared.event.BeginKind.TheVariants.{Query, Update}
+use Rattle.esr_locks.specs.Tables.{released_query, has_lock_unlike, has_other_lock}
+use Rattle.esr_locks.proofs.Tables.{released_as_query, released_as_update}
 use Rattle.esr_locks.proofs.entry.LockEntry.release.Goals as goal
-use Rattle.std.proofs.lemmas.Grind.{common_steps}
 
-pub invariant_of-self : goal.invariant_of-self
-invariant_of-self c = grind (arith, filter_ascends, all_filter)
+pub returns-in-Some-Query : goal.returns-in-Some-Query
+returns-in-Some-Query c =
+    let l = c.args.self.now.locks in
+    let none : has_lock_unlike c.in-Some-Query.field-0 l c.args.t.0 ≡ false = subst (λ (k : Option BeginKind). has_other_lock k l c.args.t.0 ≡ false) c.in-Some-Query.is c.requires in
+    let kind : c.in-Some-Query.field-0 ≡ Query = rw c.in-Some-Query.is at c.in-Some-Query.field-0-is in
+    c.release_query.ensures ∙ released_as_query c.args.t.0 l (subst (λ (k : BeginKind). has_lock_unlike k l c.args.t.0 ≡ false) kind none)
 
-other_writer : (w : Option TxnId) (t : ℕ) → option_map (λ u. u.0) (if unwrap_or (option_map (λ u. u.0 == t) w) false then None else w) ≡ (if unwrap_or (option_map (λ u. u == t) (option_map (λ u. u.0) w)) false then None else option_map (λ u. u.0) w)
-other_writer None t = refl
-other_writer (Some u) t = grind (arith, common_steps)
+pub returns-in-Some-Update : goal.returns-in-Some-Update
+returns-in-Some-Update c =
+    let l = c.args.self.now.locks in
+    let none : has_lock_unlike c.in-Some-Update.field-0 l c.args.t.0 ≡ false = subst (λ (k : Option BeginKind). has_other_lock k l c.args.t.0 ≡ false) c.in-Some-Update.is c.requires in
+    let kind : c.in-Some-Update.field-0 ≡ Update = rw c.in-Some-Update.is at c.in-Some-Update.field-0-is in
+    c.release_update.ensures ∙ released_as_update c.args.t.0 l (subst (λ (k : BeginKind). has_lock_unlike k l c.args.t.0 ≡ false) kind none)
 
-pub returns : goal.returns
-returns c =
-    subst (λ (v : LockEntryModel). record { writer = option_map (λ u. u.0) c.writer_unless-self-inside.result; readers = map (λ r. r.update.0) c.remove_txn.new.self.items; queries = map query_and_count c.remove_txn-2.new.self.items } ≡ released c.args.t.0 v.locks) c.self.view_is
-    (let w : option_map (λ u. u.0) c.writer_unless-self-inside.result ≡ (if unwrap_or (option_map (λ u. u == c.args.t.0) (option_map (λ u. u.0) c.self.inside.writer)) false then None else option_map (λ u. u.0) c.self.inside.writer) =
-    ap (option_map (λ (u : TxnId). u.0)) c.writer_unless-self-inside.ensures ∙ other_writer c.self.inside.writer c.args.t.0 in
-    let r : map (λ r. r.update.0) c.remove_txn.new.self.items ≡ filter (λ u. not (u == c.args.t.0)) (map (λ r. r.update.0) c.self.inside.readers.items) =
-    rw c.remove_txn.ensures (map-others (λ r. r.update.0) (λ u. u) (λ r. r.update.0) (λ r. refl) c.args.t.0 c.self.inside.readers.items) in
-    let q : map query_and_count c.remove_txn-2.new.self.items ≡ filter (λ (p : ℕ × ℕ). not (p.0 == c.args.t.0)) (map query_and_count c.self.inside.queries.items) =
-    rw c.remove_txn-2.ensures (map-others (λ r. r.query.0) (λ (p : ℕ × ℕ). p.0) query_and_count (λ r. refl) c.args.t.0 c.self.inside.queries.items) in
-    rw (w, r, q) refl)
+pub returns-in-None : goal.returns-in-None
+returns-in-None c = c.release_query-in-None.ensures ∙ ap (released_query c.args.t.0) c.release_update-in-None.ensures
