@@ -500,7 +500,14 @@ impl ProposedAmounts {
         let offsets = sums.count.saturating_mul(OFFSET);
         let net_amount = sums.written_amounts.saturating_sub(offsets);
         let ratio = ratio_of(net_amount, sums.overwritten_costs.saturating_sub(offsets));
-        let rest = share(versions, &mut self.current, accesses, net_amount, ratio);
+        let rest = share(
+            versions,
+            &mut self.current,
+            accesses,
+            net_amount,
+            ratio,
+            sums.count,
+        );
         self.fill_targets(accesses, update, update, rest);
         0
     }
@@ -549,28 +556,37 @@ fn retreat(
     sums
 }
 
-/// Distributes an amount without offsets over the versions that an update overwrites, in proportion to their costs. The ratio is a
-/// fixed-point number in units of 2^-31. Returns what rounding leaves over.
+/// Distributes an amount without offsets over the `count` versions that an update overwrites, in proportion to their costs. The
+/// ratio is a fixed-point number in units of 2^-31. The last version takes what rounding leaves over, at most its cost. Returns the
+/// rest. No difference and no product here wraps.
 fn share(
     versions: &mut [Version],
     current: &mut [CurrentVersion],
     accesses: &[Access],
     net_amount: u64,
     ratio: u64,
+    count: u64,
 ) -> u64 {
     let mut left = net_amount;
+    let mut versions_left = count;
     for j in 0..accesses.len() {
         let x = accesses[j].item.0 as usize;
         if j < versions.len() && x < current.len() && versions[j].overwritten() != NONE {
             let overwritten = current[x];
-            let part = part_of(overwritten.cost.saturating_sub(OFFSET), ratio).min(left);
-            let amount = part.saturating_add(OFFSET);
-            versions[j] = versions[j].with_residual(amount < overwritten.cost);
+            let cost = overwritten.cost.wrapping_sub(OFFSET);
+            versions_left = versions_left.wrapping_sub(1);
+            let share = if versions_left == 0 {
+                left
+            } else {
+                part_of(cost, ratio)
+            };
+            let part = share.min(cost).min(left);
+            versions[j] = versions[j].with_residual(part < cost);
             current[x] = CurrentVersion {
-                amount,
+                amount: part.wrapping_add(OFFSET),
                 ..overwritten
             };
-            left = left.saturating_sub(part);
+            left = left.wrapping_sub(part);
         }
     }
     left
@@ -591,8 +607,8 @@ fn ratio_of(amount: u64, sum: u64) -> u64 {
 fn part_of(cost: u64, ratio: u64) -> u64 {
     // the product fits in 64 bits in both cases; a large cost loses its last 31 bits
     if cost < 1 << 32 {
-        cost.saturating_mul(ratio) >> 31
+        cost.wrapping_mul(ratio) >> 31
     } else {
-        (cost >> 31).saturating_mul(ratio)
+        (cost >> 31).wrapping_mul(ratio)
     }
 }
