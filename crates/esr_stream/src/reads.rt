@@ -47,17 +47,33 @@ pub fn values_by_item(
     Ok(values_read)
 }
 
-/// Returns the sum of the distances of the values from a version of the item. Most queries read an item once, which takes no loop.
+/// Returns the sum of the distances of the values from a version of the item, by a loop, which is out of line.
+#[inline(never)]
+fn distance_of_several<M: Metric>(metric: &M, x: ItemId, values: &[i64], version: i64) -> u64
+    requires count_within_max { length values.now ≤ MAX_READS }
+    requires values { All IsValue values.now }
+    requires version { IsValue version }
+    ensures { result ≡ distance_sum (M.distance_by (M.weights metric.now)) x.0 values.now version }
+{
+    distance_to(metric, x, values, version)
+}
+
+/// Returns the sum of the distances of the values from a version of the item. Most queries read an item at most once, which takes
+/// no loop.
 fn total_distance<M: Metric>(metric: &M, x: ItemId, values: &[i64], version: i64) -> u64
     requires count_within_max { length values.now ≤ MAX_READS }
     requires values { All IsValue values.now }
     requires version { IsValue version }
     ensures { result ≡ distance_sum (M.distance_by (M.weights metric.now)) x.0 values.now version }
 {
-    if values.len() == 1 {
-        return metric.distance(x, values[0], version);
+    if 1 < values.len() {
+        return distance_of_several(metric, x, values, version);
     }
-    distance_to(metric, x, values, version)
+    if values.is_empty() {
+        0
+    } else {
+        metric.distance(x, values[0], version)
+    }
 }
 
 /// Returns the cost of a version of an item, plus the offset.

@@ -126,6 +126,19 @@ impl SearchState {
             self.low = self.low.min(self.labels.bound(update));
             return Ok(false);
         }
+        self.follow_new(amounts, origin, arc, update)
+    }
+
+    /// Follows an arc to an update that this search has not reached before. Returns whether the search continues there at once. It
+    /// is out of line, so that `follow` is inlined: most arcs lead to an update that the search has reached.
+    #[inline(never)]
+    fn follow_new(
+        &mut self,
+        amounts: &ProposedAmounts,
+        origin: Origin,
+        arc: ResidualArc,
+        update: u16,
+    ) -> Result<bool, AllocError> {
         let bound = self.bound_now(amounts, update);
         self.low = self.low.min(bound);
         self.frontier.push(origin, arc, update, bound)
