@@ -135,8 +135,8 @@ pub struct ProposedAmounts {
     starts: Vec<u32>,
     /// The current version of each item.
     current: Vec<CurrentVersion>,
-    /// Whether an update reads.
-    has_reads: bool,
+    /// The number of reads of the updates.
+    read_count: usize,
     /// The reads of the updates, none before `list_reads`.
     pub reads: UpdateReads,
 }
@@ -187,7 +187,7 @@ impl ProposedAmounts {
             versions: Vec::with_capacity(alloc, capacity)?,
             starts: Vec::with_capacity(alloc, query.update_count().saturating_add(1))?,
             current: Vec::with_capacity(alloc, items)?,
-            has_reads: false,
+            read_count: 0,
             reads: UpdateReads::new(alloc),
         };
         for x in 0..query.items() {
@@ -307,7 +307,7 @@ impl ProposedAmounts {
 
     /// Appends a read.
     fn push_read(&mut self) -> Result<(), AllocError> {
-        self.has_reads = true;
+        self.read_count = self.read_count.saturating_add(1);
         self.push_version(NONE, NOBODY, OFFSET)
     }
 
@@ -359,8 +359,16 @@ impl ProposedAmounts {
         query: &AuditedQuery<M>,
         buffer: &mut Vec<Access>,
     ) -> Result<(), AllocError> {
-        if self.has_reads && self.reads.is_empty() {
-            self.reads = UpdateReads::of(alloc, query, &self.starts, self.versions.len(), buffer)?;
+        if 0 < self.read_count && self.reads.is_empty() {
+            let versions = self.versions.len();
+            self.reads = UpdateReads::of(
+                alloc,
+                query,
+                &self.starts,
+                versions,
+                self.read_count,
+                buffer,
+            )?;
         }
         Ok(())
     }
@@ -374,13 +382,16 @@ impl ProposedAmounts {
         }
     }
 
-    /// Stores the amounts of the reads, and lowers the amounts of the versions by the raises, since each is now the amount
-    /// before all readers.
+    /// Stores the amounts of the reads that have a raise or a loan, and lowers the amounts of the versions by the raises, since each
+    /// is now the amount before all readers. The amounts of the other reads are stored already.
     pub fn store_reads(&mut self) {
         for r in 0..to_u32_or_max(self.reads.len()) {
             let Some(read) = self.reads.get(r) else {
                 return;
             };
+            if read.raise == 0 && read.loan == 0 {
+                continue;
+            }
             let amount = OFFSET.saturating_add(read.raise).saturating_sub(read.loan);
             let own = self.version(read.id);
             self.set_version(read.id, own.with_amount(amount));
