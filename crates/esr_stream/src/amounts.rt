@@ -5,7 +5,9 @@
 //! order, each with the cost of the version that it overwrites. Then the *sweep* visits the updates from the last to the first.
 //! The last version of each item gets its cost as its amount. For each update, the sum of the amounts of the versions that it
 //! writes is distributed over the versions that it overwrites, in proportion to their costs. If these costs add up to less than
-//! that sum, the update has an *excess*, and searches (`search`) look for earlier versions that can take it.
+//! that sum, the update has an *excess*, and searches (`search`) look for earlier versions that can take it. The sweep goes over the
+//! versions of an update a second time only to distribute less than the costs. Rejected: parts of the sum of the costs so far, which
+//! leave no rest: they take 1 per cent more instructions in the load `many` of `bench/audit` than to distribute a rest.
 //!
 //! The search works in the flow network with all arcs reversed. It goes from an update to the writer of a version that the
 //! update overwrites, if this version has residual capacity (its amount is less than its cost). It also goes from an update to
