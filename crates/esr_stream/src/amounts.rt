@@ -5,7 +5,9 @@
 //! order, each with the cost of the version that it overwrites. Then the *sweep* visits the updates from the last to the first.
 //! The last version of each item gets its cost as its amount. For each update, the sum of the amounts of the versions that it
 //! writes is distributed over the versions that it overwrites, in proportion to their costs. If these costs add up to less than
-//! that sum, the update has an *excess*, and searches (`search`) look for earlier versions that can take it.
+//! that sum, the update has an *excess*, and searches (`search`) look for earlier versions that can take it. The sweep goes over the
+//! versions of an update a second time only to distribute less than the costs. Rejected: parts of the sum of the costs so far, which
+//! leave no rest: they take 1 per cent more instructions in the load `many` of `bench/audit` than to distribute a rest.
 //!
 //! The search works in the flow network with all arcs reversed. It goes from an update to the writer of a version that the
 //! update overwrites, if this version has residual capacity (its amount is less than its cost). It also goes from an update to
@@ -99,9 +101,11 @@ impl Version {
         }
     }
 
-    /// Returns the version with its overwriter.
-    fn with_overwriter(self, overwriter: u16) -> Version {
-        Version { overwriter, ..self }
+    /// Returns whether the version that it overwrites has residual capacity, and the sweep, which is at the update `source` and has
+    /// passed this version, has not passed that one.
+    fn overwrites_target_at(self, source: u16) -> bool {
+        self.can_increase_overwritten()
+            && (self.overwritten_writer == NOBODY || self.overwritten_writer < source)
     }
 }
 
@@ -133,11 +137,8 @@ pub struct ProposedAmounts {
     starts: Vec<u32>,
     /// The current version of each item.
     current: Vec<CurrentVersion>,
-    /// For each update that the sweep has passed, the number of targets that it overwrites: versions that the sweep has not passed
-    /// and that have residual capacity.
-    targets: Vec<u16>,
-    /// Whether an update reads.
-    has_reads: bool,
+    /// The number of reads of the updates.
+    read_count: usize,
     /// The reads of the updates, none before `list_reads`.
     pub reads: UpdateReads,
 }
@@ -188,8 +189,7 @@ impl ProposedAmounts {
             versions: Vec::with_capacity(alloc, capacity)?,
             starts: Vec::with_capacity(alloc, query.update_count().saturating_add(1))?,
             current: Vec::with_capacity(alloc, items)?,
-            targets: vec![in alloc; 0; query.update_count()]?,
-            has_reads: false,
+            read_count: 0,
             reads: UpdateReads::new(alloc),
         };
         for x in 0..query.items() {
@@ -282,17 +282,18 @@ impl ProposedAmounts {
         first_version: u32,
         id: u32,
     ) -> Result<(), AllocError> {
-        let current = self.current_version(x);
-        self.set_current(
-            x,
-            CurrentVersion {
-                cost,
-                amount: 0,
-                id,
-                overwriting: NONE,
-                neighbor: update,
-            },
-        );
+        let x = x.0 as usize;
+        if self.current.len() <= x {
+            return self.push_version(NONE, NOBODY, 0);
+        }
+        let current = self.current[x];
+        self.current[x] = CurrentVersion {
+            cost,
+            amount: 0,
+            id,
+            overwriting: NONE,
+            neighbor: update,
+        };
         if current.id < first_version {
             return self.push_version(current.id, current.neighbor, current.cost);
         }
@@ -308,7 +309,7 @@ impl ProposedAmounts {
 
     /// Appends a read.
     fn push_read(&mut self) -> Result<(), AllocError> {
-        self.has_reads = true;
+        self.read_count = self.read_count.saturating_add(1);
         self.push_version(NONE, NOBODY, OFFSET)
     }
 
@@ -360,8 +361,16 @@ impl ProposedAmounts {
         query: &AuditedQuery<M>,
         buffer: &mut Vec<Access>,
     ) -> Result<(), AllocError> {
-        if self.has_reads && self.reads.is_empty() {
-            self.reads = UpdateReads::of(alloc, query, &self.starts, self.versions.len(), buffer)?;
+        if 0 < self.read_count && self.reads.is_empty() {
+            let versions = self.versions.len();
+            self.reads = UpdateReads::of(
+                alloc,
+                query,
+                &self.starts,
+                versions,
+                self.read_count,
+                buffer,
+            )?;
         }
         Ok(())
     }
@@ -375,13 +384,16 @@ impl ProposedAmounts {
         }
     }
 
-    /// Stores the amounts of the reads, and lowers the amounts of the versions by the raises, since each is now the amount
-    /// before all readers.
+    /// Stores the amounts of the reads that have a raise or a loan, and lowers the amounts of the versions by the raises, since each
+    /// is now the amount before all readers. The amounts of the other reads are stored already.
     pub fn store_reads(&mut self) {
         for r in 0..to_u32_or_max(self.reads.len()) {
             let Some(read) = self.reads.get(r) else {
                 return;
             };
+            if read.raise == 0 && read.loan == 0 {
+                continue;
+            }
             let amount = OFFSET.saturating_add(read.raise).saturating_sub(read.loan);
             let own = self.version(read.id);
             self.set_version(read.id, own.with_amount(amount));
@@ -391,157 +403,51 @@ impl ProposedAmounts {
         }
     }
 
-    /// Returns the sums of an update with these accesses.
-    fn sums(&self, accesses: &[Access], first_version: u32) -> Sums {
-        let mut sums = Sums {
-            written_amounts: 0,
-            overwritten_costs: 0,
-            count: 0,
-        };
-        // backward like the sweep, since processors prefetch memory best if it is read in one direction
-        let mut id = first_version.saturating_add(to_u32_or_max(accesses.len()));
-        for access in accesses.iter().rev() {
-            id = id.saturating_sub(1);
-            let version = self.version(id);
-            if version.overwritten() != NONE {
-                let amount = self.current_version(access.item).amount;
-                sums.written_amounts = sums.written_amounts.saturating_add(amount);
-                sums.overwritten_costs = sums.overwritten_costs.saturating_add(version.amount);
-                sums.count = sums.count.saturating_add(1);
-            }
-        }
-        sums
+    /// Returns whether an update that the sweep has passed overwrites a target: a version that has residual capacity and that the
+    /// sweep, which is at the update `source`, has not passed.
+    pub fn overwrites_target(&self, update: u16, source: u16) -> bool {
+        self.versions_of(update)
+            .iter()
+            .any(|version| version.overwrites_target_at(source))
     }
 
-    /// Returns whether an update that the sweep has passed overwrites a target.
-    pub fn overwrites_target(&self, update: u16) -> bool {
-        self.targets
-            .get(update as usize)
-            .is_some_and(|targets| 0 < *targets)
-    }
-
-    /// Notes that an update overwrites one more target, if `has_residual`.
-    fn add_target(&mut self, update: u16, has_residual: bool) {
-        let i = update as usize;
-        if has_residual && i < self.targets.len() {
-            self.targets[i] = self.targets[i].saturating_add(1);
-        }
-    }
-
-    /// Notes that an update overwrites one target less, if `had_residual`.
-    fn remove_target(&mut self, update: u16, had_residual: bool) {
-        let i = update as usize;
-        if had_residual && i < self.targets.len() {
-            self.targets[i] = self.targets[i].saturating_sub(1);
-        }
-    }
-
-    /// Moves the sweep back past a write: stores the current amount in the version, and makes the version that it overwrites
-    /// current, with `overwritten_amount`.
-    fn retreat(
-        &mut self,
-        x: ItemId,
-        id: u32,
-        version: Version,
-        overwritten_amount: u64,
-        update: u16,
-    ) {
-        let current = self.current_version(x);
-        let cost = version.amount;
-        self.remove_target(current.neighbor, current.amount < current.cost);
-        self.add_target(update, overwritten_amount < cost);
-        let passed = version
-            .with_amount(current.amount)
-            .with_residual(overwritten_amount < cost)
-            .with_overwriter(current.neighbor);
-        self.set_version(id, passed);
-        self.set_current(
-            x,
-            CurrentVersion {
-                cost,
-                amount: overwritten_amount,
-                id: version.overwritten(),
-                overwriting: id,
-                neighbor: update,
-            },
-        );
-    }
-
-    /// Moves the sweep back past an update, and sets the amount of each version that it overwrites to its cost.
-    fn fill(&mut self, accesses: &[Access], first_version: u32, update: u16) {
-        let mut id = first_version;
-        for access in accesses {
-            let version = self.version(id);
-            if version.overwritten() != NONE {
-                self.retreat(access.item, id, version, version.amount, update);
-            }
-            id = id.saturating_add(1);
-        }
-    }
-
-    /// Moves the sweep back past an update, and distributes an amount without offsets over the versions that it overwrites, in
-    /// proportion to their costs. The ratio is a fixed-point number in units of 2^-31.
-    fn share(
+    /// Increases the amounts of the targets that an update with these accesses overwrites, by at most `most` in all. The sweep is at
+    /// the update `source`. Returns by how much.
+    pub fn fill_targets(
         &mut self,
         accesses: &[Access],
-        first_version: u32,
-        net_amount: u64,
-        ratio: u64,
         update: u16,
-    ) {
-        let mut left = net_amount;
-        let mut id = first_version;
-        for access in accesses {
-            let version = self.version(id);
-            if version.overwritten() != NONE {
-                let part = part_of(version.amount.saturating_sub(OFFSET), ratio).min(left);
-                self.retreat(
-                    access.item,
-                    id,
-                    version,
-                    part.saturating_add(OFFSET),
-                    update,
-                );
-                left = left.saturating_sub(part);
-            }
-            id = id.saturating_add(1);
-        }
-        self.share_rest(accesses, first_version, left);
-    }
-
-    /// Distributes what rounding left over.
-    fn share_rest(&mut self, accesses: &[Access], first_version: u32, rest: u64) {
-        let mut left = rest;
-        let mut id = first_version;
+        source: u16,
+        most: u64,
+    ) -> u64 {
+        let mut left = most;
+        let mut id = self.first_version(update);
         for access in accesses {
             if left == 0 {
-                return;
+                return most;
             }
-            if self.version(id).overwritten() != NONE {
+            if self.version(id).overwrites_target_at(source) {
                 let part = self.residual(access.item).min(left);
                 self.add_to_current(access.item, part);
                 left = left.saturating_sub(part);
             }
             id = id.saturating_add(1);
         }
+        most.saturating_sub(left)
     }
 
     /// Returns the residual capacity of the current version of an item.
-    pub fn residual(&self, x: ItemId) -> u64 {
+    fn residual(&self, x: ItemId) -> u64 {
         let current = self.current_version(x);
         current.cost.saturating_sub(current.amount)
     }
 
     /// Adds to the amount of the current version of an item.
-    pub fn add_to_current(&mut self, x: ItemId, more: u64) {
+    fn add_to_current(&mut self, x: ItemId, more: u64) {
         let current = self.current_version(x);
         let amount = current.amount.saturating_add(more);
         self.set_current(x, CurrentVersion { amount, ..current });
         self.set_residual(current.overwriting, amount < current.cost);
-        self.remove_target(
-            current.neighbor,
-            current.amount < current.cost && current.cost <= amount,
-        );
     }
 
     /// Sets whether the version that a version overwrites has residual capacity.
@@ -594,17 +500,109 @@ impl ProposedAmounts {
     /// Distributes the amounts of the versions that an update writes over those that it overwrites. Returns the excess.
     pub fn distribute(&mut self, accesses: &[Access], update: u16) -> u64 {
         let first_version = self.first_version(update);
-        let sums = self.sums(accesses, first_version);
+        let first = first_version as usize;
+        let end = first.saturating_add(accesses.len());
+        if end < first || self.versions.len() < end {
+            return 0;
+        }
+        let versions = &mut self.versions[first..end];
+        let sums = retreat(versions, &mut self.current, accesses, first_version, update);
         if sums.overwritten_costs <= sums.written_amounts {
-            self.fill(accesses, first_version, update);
             return sums.written_amounts.saturating_sub(sums.overwritten_costs);
         }
         let offsets = sums.count.saturating_mul(OFFSET);
         let net_amount = sums.written_amounts.saturating_sub(offsets);
         let ratio = ratio_of(net_amount, sums.overwritten_costs.saturating_sub(offsets));
-        self.share(accesses, first_version, net_amount, ratio, update);
+        let rest = share(
+            versions,
+            &mut self.current,
+            accesses,
+            net_amount,
+            ratio,
+            sums.count,
+        );
+        self.fill_targets(accesses, update, update, rest);
         0
     }
+}
+
+/// Moves the sweep back past an update: stores the current amounts in the versions that it writes, and makes those that it
+/// overwrites current, with their costs as their amounts. Returns the sums of the update.
+fn retreat(
+    versions: &mut [Version],
+    current: &mut [CurrentVersion],
+    accesses: &[Access],
+    first_version: u32,
+    update: u16,
+) -> Sums {
+    let mut sums = Sums {
+        written_amounts: 0,
+        overwritten_costs: 0,
+        count: 0,
+    };
+    // backward like the sweep, since processors prefetch memory best if it is read in one direction
+    let mut id = first_version.saturating_add(to_u32_or_max(accesses.len()));
+    for j in (0..accesses.len()).rev() {
+        id = id.saturating_sub(1);
+        let x = accesses[j].item.0 as usize;
+        if j < versions.len() && x < current.len() && versions[j].overwritten() != NONE {
+            let version = versions[j];
+            let passed = current[x];
+            let cost = version.amount;
+            versions[j] = Version {
+                amount: passed.amount,
+                overwriter: passed.neighbor,
+                ..version
+            };
+            current[x] = CurrentVersion {
+                cost,
+                amount: cost,
+                id: version.overwritten(),
+                overwriting: id,
+                neighbor: update,
+            };
+            sums.written_amounts = sums.written_amounts.saturating_add(passed.amount);
+            sums.overwritten_costs = sums.overwritten_costs.saturating_add(cost);
+            sums.count = sums.count.saturating_add(1);
+        }
+    }
+    sums
+}
+
+/// Distributes an amount without offsets over the `count` versions that an update overwrites, in proportion to their costs. The
+/// ratio is a fixed-point number in units of 2^-31. The last version takes what rounding leaves over, at most its cost. Returns the
+/// rest. No difference and no product here wraps.
+fn share(
+    versions: &mut [Version],
+    current: &mut [CurrentVersion],
+    accesses: &[Access],
+    net_amount: u64,
+    ratio: u64,
+    count: u64,
+) -> u64 {
+    let mut left = net_amount;
+    let mut versions_left = count;
+    for j in 0..accesses.len() {
+        let x = accesses[j].item.0 as usize;
+        if j < versions.len() && x < current.len() && versions[j].overwritten() != NONE {
+            let overwritten = current[x];
+            let cost = overwritten.cost.wrapping_sub(OFFSET);
+            versions_left = versions_left.wrapping_sub(1);
+            let share = if versions_left == 0 {
+                left
+            } else {
+                part_of(cost, ratio)
+            };
+            let part = share.min(cost).min(left);
+            versions[j] = versions[j].with_residual(part < cost);
+            current[x] = CurrentVersion {
+                amount: part.wrapping_add(OFFSET),
+                ..overwritten
+            };
+            left = left.wrapping_sub(part);
+        }
+    }
+    left
 }
 
 /// Returns the ratio of an amount to a larger sum in units of 2^-31, rounded down.
@@ -622,8 +620,8 @@ fn ratio_of(amount: u64, sum: u64) -> u64 {
 fn part_of(cost: u64, ratio: u64) -> u64 {
     // the product fits in 64 bits in both cases; a large cost loses its last 31 bits
     if cost < 1 << 32 {
-        cost.saturating_mul(ratio) >> 31
+        cost.wrapping_mul(ratio) >> 31
     } else {
-        (cost >> 31).saturating_mul(ratio)
+        (cost >> 31).wrapping_mul(ratio)
     }
 }

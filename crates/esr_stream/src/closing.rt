@@ -24,16 +24,20 @@ pub fn is_marked(flags: &[bool], i: usize) -> bool
     flags.get(i).copied().unwrap_or(false)
 }
 
-/// Sets the flag of each item that one of these accesses writes, if `writes` is true, or reads, if it is false.
-fn mark(flags: &mut [bool], accesses: &[Access], writes: bool)
-    requires in_range { All (λ a. a.item.0 < length flags.old) accesses.now }
-    ensures len { length flags.new ≡ length flags.old }
-    ensures marks { (x : ℕ) → marked flags.new x
-        ≡ (marked flags.old x || list_any (is_access writes x) accesses.now) }
+/// Sets the flag in `read` of each item that one of these accesses reads, and the flag in `written` of each one that it writes.
+fn mark(read: &mut [bool], written: &mut [bool], accesses: &[Access])
+    requires read_in_range { All (λ a. a.item.0 < length read.old) accesses.now }
+    requires written_in_range { All (λ a. a.item.0 < length written.old) accesses.now }
+    ensures read_len { length read.new ≡ length read.old }
+    ensures written_len { length written.new ≡ length written.old }
+    ensures read { (x : ℕ) → marked read.new x ≡ (marked read.old x || list_any (is_access false x) accesses.now) }
+    ensures written { (x : ℕ) → marked written.new x ≡ (marked written.old x || list_any (is_access true x) accesses.now) }
 {
     for access in accesses {
-        if access.writes == writes {
-            flags[access.item.0 as usize] = true;
+        if access.writes {
+            written[access.item.0 as usize] = true;
+        } else {
+            read[access.item.0 as usize] = true;
         }
     }
 }
@@ -74,8 +78,7 @@ impl Later {
         ensures written { (x : ℕ) → marked self.new.written.items x
             ≡ (marked self.old.written.items x || list_any (is_access true x) accesses.now) }
     {
-        mark(&mut self.read, accesses, false);
-        mark(&mut self.written, accesses, true);
+        mark(&mut self.read, &mut self.written, accesses);
     }
 
     /// Adds the accesses of an update, if it is marked.

@@ -1,7 +1,8 @@
 //! The values that a query read, by item, and the costs of versions.
-ghost use Rattle.std.specs.Prelude.{◌≡◌, ◌<◌, ◌++◌, ◌∷◌, [], ℕ, IfOk, OnOk, length};
+ghost use Rattle.std.specs.Prelude.{◌≡◌, ◌≤◌, ◌<◌, ◌++◌, ◌∷◌, [], ℕ, All, IfOk, OnOk, length};
+ghost use Rattle.esr_base.specs.declared.limits.TheConstants.{MAX_READS};
 ghost use Rattle.esr_items.specs.Values.{IsValue};
-ghost use Rattle.esr_stream.specs.Reads.{AreReadsInRange, list_at, offset_cost, values_of};
+ghost use Rattle.esr_stream.specs.Reads.{AreReadsInRange, distance_sum, list_at, offset_cost, values_of};
 
 use esr_items::{ItemId, Metric};
 use esr_order::{Access, distance_to, empty_lists};
@@ -46,6 +47,35 @@ pub fn values_by_item(
     Ok(values_read)
 }
 
+/// Returns the sum of the distances of the values from a version of the item, by a loop, which is out of line.
+#[inline(never)]
+fn distance_of_several<M: Metric>(metric: &M, x: ItemId, values: &[i64], version: i64) -> u64
+    requires count_within_max { length values.now ≤ MAX_READS }
+    requires values { All IsValue values.now }
+    requires version { IsValue version }
+    ensures { result ≡ distance_sum (M.distance_by (M.weights metric.now)) x.0 values.now version }
+{
+    distance_to(metric, x, values, version)
+}
+
+/// Returns the sum of the distances of the values from a version of the item. Most queries read an item at most once, which takes
+/// no loop.
+fn total_distance<M: Metric>(metric: &M, x: ItemId, values: &[i64], version: i64) -> u64
+    requires count_within_max { length values.now ≤ MAX_READS }
+    requires values { All IsValue values.now }
+    requires version { IsValue version }
+    ensures { result ≡ distance_sum (M.distance_by (M.weights metric.now)) x.0 values.now version }
+{
+    if 1 < values.len() {
+        return distance_of_several(metric, x, values, version);
+    }
+    if values.is_empty() {
+        0
+    } else {
+        metric.distance(x, values[0], version)
+    }
+}
+
 /// Returns the cost of a version of an item, plus the offset.
 pub fn offset_cost<M: Metric>(metric: &M, values_read: &[Vec<i64>], x: ItemId, version: i64) -> u64
     requires item { x.0 < length values_read.now }
@@ -53,5 +83,5 @@ pub fn offset_cost<M: Metric>(metric: &M, values_read: &[Vec<i64>], x: ItemId, v
     requires version { IsValue version }
     ensures { result ≡ offset_cost (M.distance_by (M.weights metric.now)) values_read.now x.0 version }
 {
-    distance_to(metric, x, &values_read[x.0 as usize], version) + OFFSET
+    total_distance(metric, x, &values_read[x.0 as usize], version) + OFFSET
 }

@@ -65,17 +65,18 @@ impl UpdateReads {
         }
     }
 
-    /// Returns the reads of the updates. `first_versions` has the id of the first version of each update, and `versions` is the
-    /// number of versions.
+    /// Returns the reads of the updates. `first_versions` has the id of the first version of each update, `versions` is the number
+    /// of versions, and `read_count` the number of reads: a growing list would leave each of its earlier blocks in the heap.
     pub fn of<M: Metric>(
         alloc: Global,
         query: &AuditedQuery<M>,
         first_versions: &[u32],
         versions: usize,
+        read_count: usize,
         buffer: &mut Vec<Access>,
     ) -> Result<UpdateReads, AllocError> {
         let mut reads = UpdateReads {
-            reads: Vec::new(alloc),
+            reads: Vec::with_capacity(alloc, read_count)?,
             starts: Vec::with_capacity(alloc, query.update_count().saturating_add(1))?,
             first_of_version: vec![in alloc; NONE; versions]?,
         };

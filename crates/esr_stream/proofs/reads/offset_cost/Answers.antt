@@ -10,19 +10,19 @@ use Rattle.esr_stream.proofs.reads.offset_cost.Goals as goal
 values : (g : Over) (c : goal.After-deref g) → c.deref.result.now ≡ list_at c.args.values_read.now c.args.x.0
 values g c = c.deref.ensures.value ∙ list_is c.args.values_read.now c.args.x.0 c.index-values_read-x.result c.requires.item c.index-values_read-x.is
 
-pub distance_to-requires-clause-count_within_max : goal.distance_to-requires-clause-count_within_max
-distance_to-requires-clause-count_within_max g c = omega (arith, ap (λ (vs : List ℤ). length vs) (values g c), c.requires.reads_in_range.count_within_max c.args.x.0)
+pub total_distance-requires-clause-count_within_max : goal.total_distance-requires-clause-count_within_max
+total_distance-requires-clause-count_within_max g c = omega (arith, ap (λ (vs : List ℤ). length vs) (values g c), c.requires.reads_in_range.count_within_max c.args.x.0)
 
-pub distance_to-requires-clause-values : goal.distance_to-requires-clause-values
-distance_to-requires-clause-values g c = subst (All IsValue) (sym (values g c)) (c.requires.reads_in_range.values c.args.x.0)
+pub total_distance-requires-clause-values : goal.total_distance-requires-clause-values
+total_distance-requires-clause-values g c = subst (All IsValue) (sym (values g c)) (c.requires.reads_in_range.values c.args.x.0)
 
-version : (g : Over) (c : goal.After-distance_to g) → to_z w64 (of_z w64 c.args.version) ≡ c.args.version
+version : (g : Over) (c : goal.After-total_distance g) → to_z w64 (of_z w64 c.args.version) ≡ c.args.version
 version g c = to_z-of_z w64 c.args.version (value_fits c.args.version c.requires.version)
 
-told : (g : Over) (c : goal.After-distance_to g) → c.distance_to.result ≡ distance_sum (g.M.Metric.distance_by (g.M.Metric.weights c.args.metric.now)) c.args.x.0 (list_at c.args.values_read.now c.args.x.0) c.args.version
+told : (g : Over) (c : goal.After-total_distance g) → c.total_distance.result ≡ distance_sum (g.M.Metric.distance_by (g.M.Metric.weights c.args.metric.now)) c.args.x.0 (list_at c.args.values_read.now c.args.x.0) c.args.version
 told g c =
     let D : ℕ → ℤ → ℤ → ℕ = g.M.Metric.distance_by (g.M.Metric.weights c.args.metric.now) in
-    c.distance_to.ensures
+    c.total_distance.ensures
     ∙ ap (λ v. distance_sum D c.args.x.0 c.deref.result.now v) (version g c)
     ∙ ap (λ vs. distance_sum D c.args.x.0 vs c.args.version) (c.deref.ensures.value ∙ list_is c.args.values_read.now c.args.x.0 c.index-values_read-x.result c.requires.item c.index-values_read-x.is)
 
