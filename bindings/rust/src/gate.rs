@@ -5,7 +5,7 @@
 //! the cache of another processor, which takes as long again. So a holder that leaves while other threads poll *reserves* the
 //! gate for itself: it enters again at once, and the others do not try. Its *lease* ends with the first hold after a poller
 //! has waited for the length of a lease and requested the end; then the gate is open, and threads enter in about the order of
-//! their arrival. The former owner is the last of them. A lease takes 20 microseconds, or more if more threads poll or holds
+//! their arrival. The former owner is the last of them. A lease takes 10 microseconds, or more if more threads poll or holds
 //! are longer (`poller`). A reservation that is not used for five microseconds is taken over. If the time between two holds of a thread
 //! is too long, leases are suspended (`trial`), and whoever comes first enters. Without pollers nothing is reserved, so a lone
 //! thread waits for no one. An update whose draft was stale reserves the gate in any case, since it has waited already and
