@@ -14,3 +14,4 @@ pub mod Fronts
 pub mod Feeds
 pub mod Spelling
 pub mod Stops
+pub mod Halves

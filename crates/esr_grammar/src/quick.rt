@@ -2,12 +2,13 @@
 //! a write together, sixteen at a time.
 //!
 //! The names of a read are among the last sixteen bytes of most lines, those of a write among the first sixteen bytes
-//! after the first word. Other names are tested eight bytes at a time, and long ones byte by byte.
+//! after the first word. If there are only eight to fifteen bytes, the sixteen are the first and the last eight of them.
+//! Other names are tested eight bytes at a time, and long ones byte by byte.
 //!
 //! The line is the text of the returned command. If none is returned, the words of the line decide (`parse`), so this
 //! module need not recognize every line.
 
-ghost use Rattle.std.specs.Prelude.{◌≡◌, ℕ, ◌+◌, ◌/◌, ◌≤◌, ◌^◌, List, ◌∷◌, ◌++◌, IfSome, Some, codes, length, map, option_map};
+ghost use Rattle.std.specs.Prelude.{◌≡◌, ℕ, ◌+◌, ◌/◌, ◌≤◌, ◌^◌, List, ◌∷◌, ◌++◌, IfSome, Some, codes, length, map, drop, option_map};
 ghost use Rattle.std.specs.List.{list_all, position};
 ghost use Rattle.std.specs.Simd.Lanes.{mask_l};
 ghost use Rattle.esr_grammar.specs.Command.{is_name, is_name_byte, name_of, IsName, IsSyntaxOf, view};
@@ -144,15 +145,31 @@ fn stops_after(stops: u64, name: &str) -> u64
     stops >> (name.len() + 1)
 }
 
-/// Returns a mask of the first 16 bytes that are not permitted in a name, or an empty one if there are fewer bytes.
+/// Returns a mask of the bytes that are not permitted in a name, of 8 to 16 bytes.
+#[inline(always)]
+fn short_stops(bytes: &[u8]) -> u64
+    requires long { 8 ≤ length bytes.now }
+    requires short { length bytes.now ≤ 16 }
+    ensures { result ≡ mask_l (map is_stop bytes.now) }
+{
+    let first = u8x8::from_slice(bytes);
+    let last = u8x8::from_slice(&bytes[bytes.len() - 8..]);
+    let both = first.shuffle(last, [0, 1, 2, 3, 4, 5, 6, 7, 8, 9, 10, 11, 12, 13, 14, 15]);
+    let stops = name_stops(both);
+    // the first and the last eight bytes overlap
+    stops % 256 + 256 * (stops / 256 >> (16 - bytes.len()))
+}
+
+/// Returns a mask of the first 16 bytes that are not permitted in a name, or an empty one if there are fewer than eight
+/// bytes.
 #[inline(always)]
 fn first_stops(bytes: &[u8]) -> u64
     ensures { AreStops bytes.now result }
 {
-    if bytes.len() >= 16 {
-        name_stops(u8x16::from_slice(bytes))
-    } else {
-        0
+    match bytes.len() {
+        16.. => name_stops(u8x16::from_slice(bytes)),
+        8..=15 => short_stops(bytes),
+        _ => 0,
     }
 }
 
@@ -198,20 +215,48 @@ fn read_names(words: &[u8], stops: u64) -> Option<Line<'_>>
     Some(Line::Read { txn, item })
 }
 
+/// Returns a mask of the bytes that are not permitted in a name, of a line of 16 to 21 bytes without its first five.
+#[inline(always)]
+fn last_stops(line: &[u8]) -> u64
+    requires long { 16 ≤ length line.now }
+    requires short { length line.now ≤ 21 }
+    ensures { result ≡ mask_l (map is_stop (drop 5 line.now)) }
+{
+    name_stops(u8x16::from_slice(&line[line.len() - 16..])) >> (21 - line.len())
+}
+
+/// Returns a mask of the bytes that are not permitted in a name, of a line of 8 to 21 bytes without its first five.
+#[inline(always)]
+fn stops_after_five(line: &[u8]) -> Option<u64>
+    ensures { IfSome result (λ stops. (length line.now ≤ 21) × (stops ≡ mask_l (map is_stop (drop 5 line.now)))) }
+{
+    match line.len() {
+        16..=21 => Some(last_stops(line)),
+        8..=15 => Some(short_stops(line) >> 5),
+        _ => None,
+    }
+}
+
+/// Parses `read NAME NAME`, after its first word, one name at a time.
+#[inline(always)]
+fn read_each(words: &[u8]) -> Option<Line<'_>>
+    ensures { IfSome result (λ line. IsSyntaxOf (codes "read " ++ words.now) (view line)) }
+{
+    let (txn, last) = front_name(words)?;
+    let item = name_at_end(words, last)?;
+    Some(Line::Read { txn, item })
+}
+
 /// Parses `read NAME NAME`, given the line and the words after its first.
 #[inline(always)]
 fn read<'a>(line: &[u8], words: &'a [u8]) -> Option<Line<'a>>
     requires { line.now ≡ codes "read " ++ words.now }
     ensures { IfSome result (λ found. IsSyntaxOf line.now (view found)) }
 {
-    // the words are among the last 16 bytes, since 5 bytes are before them
-    if line.len() >= 16 && line.len() <= 21 {
-        let stops = name_stops(u8x16::from_slice(&line[line.len() - 16..]));
-        return read_names(words, stops >> (21 - line.len()));
+    match stops_after_five(line) {
+        Some(stops) => read_names(words, stops),
+        None => read_each(words),
     }
-    let (txn, last) = front_name(words)?;
-    let item = name_at_end(words, last)?;
-    Some(Line::Read { txn, item })
 }
 
 /// Parses `commit NAME`, after its first word.
