@@ -1,5 +1,6 @@
 -- Charges on the accounts of transactions.
 use Rattle.std.proofs.Common.{◌≡◌, ℕ, zero, suc, ℤ, ◌+◌, ◌<◌, ◌≤◌, List, [], ◌∷◌, ◌++◌, length, Bool, true, false, ◌&&◌, ◌==◌, refl, sym, ◌∙◌, ap, arith, inl, inr, Option, None, Some, if◌then◌else◌, map, add-zero, zero-add, find, nat_lt, option_map}
+use Rattle.std.specs.Prelude.{IfNone, IfSome}
 use Rattle.std.specs.List.{filter_map, cons_option, AllByRecursion}
 use Rattle.std.proofs.lemmas.Bool.{cases_Bool, cases_eq, false≢true, eq-eqb, ne_eqb, eqb-true, and_parts}
 use Rattle.std.proofs.lemmas.Option.{same_Some}
@@ -17,9 +18,11 @@ use Rattle.esr_history.proofs.TraceAgreement.{query_not_update}
 use Rattle.esr_history.proofs.Sums.{query_begun}
 use Rattle.esr_history.proofs.WellFormed.{update_begun}
 use Rattle.esr_ledgers.specs.declared.account.Account.{Account}
-use Rattle.esr_ledgers.specs.Books.{number, is_open_query, limit_at, account_amount, total_of, would_pass, quoted, quote_of, raised, charged_to_queries, charged, AreCharges}
+use Rattle.esr_ledgers.specs.declared.ledgers.Quote.{Quote}
+use Rattle.esr_ledgers.specs.declared.ledgers.Quote.TheVariants.{Fits, Import, Export}
+use Rattle.esr_ledgers.specs.Books.{number, is_open_query, limit_at, account_amount, total_of, would_pass, quoted, quote_of, raised, charged_to_queries, charged, booked, AreCharges}
 use Rattle.esr_core.specs.Represented.{account_after, books_of}
-use Rattle.esr_core.specs.States.{reason_of, charge_to, charges_by, charges_to}
+use Rattle.esr_core.specs.States.{reason_of, reason_for, charge_to, charges_by, charges_to}
 use Rattle.esr_core.proofs.Held.{txn_numbers-unchanged, is_query-unchanged, limit-unchanged}
 use Rattle.esr_core.proofs.Rows.{begun_at}
 use Rattle.esr_core.proofs.Accounts.{open_query_is, open_update_is, limit_is, import_is, export_is}
@@ -212,3 +215,18 @@ charged_none (a ∷ accounts) u = grind (arith, charged_none accounts u, more_no
 pub empty_list : (cs : List (TxnId × ℕ)) → (length cs == 0) ≡ true → cs ≡ []
 empty_list [] is = refl
 empty_list (c ∷ cs) is = absurd (let n : length (c ∷ cs) ≡ 0 = eqb-true (length (c ∷ cs)) 0 is in omega arith)
+
+-- and are not refused
+pub reason_none : (accounts : List Account) (u : TxnId) → None ≡ reason_for accounts u []
+reason_none accounts u = refl
+
+-- charges are booked if and only if their quote requires no refusal
+pub booked_when : (q : Quote) (accounts : List Account) (u : TxnId) (cs : List (TxnId × ℕ)) (ys : List Account) → ys ≡ booked q accounts u cs → IfNone (reason_of q) (ys ≡ charged accounts u cs)
+booked_when Fits accounts u cs ys is = is
+booked_when (Import v) accounts u cs ys is = tt
+booked_when (Export v) accounts u cs ys is = tt
+
+pub booked_unless : (q : Quote) (accounts : List Account) (u : TxnId) (cs : List (TxnId × ℕ)) (ys : List Account) → ys ≡ booked q accounts u cs → IfSome (reason_of q) (λ why. ys ≡ accounts)
+booked_unless Fits accounts u cs ys is = tt
+booked_unless (Import v) accounts u cs ys is = is
+booked_unless (Export v) accounts u cs ys is = is

@@ -1,14 +1,15 @@
 -- The effect of charges on accounts.
-use Rattle.std.proofs.Common.{◌≡◌, ℕ, zero, suc, ◌+◌, ◌<◌, ◌≤◌, ◌^◌, ◌*◌, List, [], ◌∷◌, ◌++◌, length, Bool, true, false, not, ◌==◌, refl, sym, ◌∙◌, ap, subst, arith, inl, inr, Option, None, Some, if◌then◌else◌, get_or, set, take, is_some, find, sum_by, unwrap_or, All, option_map}
+use Rattle.std.proofs.Common.{◌≡◌, ℕ, zero, suc, ◌+◌, ◌-◌, ◌<◌, ◌≤◌, ◌^◌, ◌*◌, List, [], ◌∷◌, ◌++◌, length, Bool, true, false, not, ◌==◌, refl, sym, ◌∙◌, ap, subst, arith, inl, inr, Option, None, Some, if◌then◌else◌, nat_lt, Some, get_or, set, take, is_some, find, sum_by, unwrap_or, All, option_map, map}
 use Rattle.std.specs.List.{AllByRecursion, insert}
-use Rattle.std.proofs.lemmas.Bool.{cases_Bool, cases_eq, eq-eqb, ne_eqb, false≢true, ltb-false, not-true, or_left, or_right}
+use Rattle.std.proofs.lemmas.Bool.{cases_Bool, cases_eq, cases_lt, lt-ltb, le-ltb, eq-eqb, ne_eqb, false≢true, ltb-false, not-true, or_left, or_right}
+use Rattle.std.proofs.lemmas.List.{take_more}
 use Rattle.std.proofs.lemmas.List.Sums.{sum_by-cons, sum_by-le, sum_by-insert}
 use Rattle.std.proofs.lemmas.List.Elements.{All-from_recursion, recursion_from_All, All-weaker}
 use Rattle.esr_base.specs.declared.numbers.TxnId.{TxnId}
 use Rattle.esr_history.specs.Ascending.{IsAscendingBy, IsPlaceOf}
 use Rattle.esr_history.proofs.Ascending.{place_tail, placed_ascends, all_placed}
 use Rattle.esr_history.specs.Events.{is_query_kind}
-use Rattle.esr_ledgers.specs.Books.{number, account_of, is_open, is_open_query, is_open_update, limit_at, account_amount, total_of, would_pass, raised, charged_to_queries, charged, imports, exports, IsWithinLimit, AreBooks, AreCharges, with_account, quoted, quote_of, Account, Fits}
+use Rattle.esr_ledgers.specs.Books.{number, account_of, is_open, is_open_query, is_open_update, limit_at, account_amount, total_of, would_pass, raised, lowered, charged_to_queries, charged, imports, exports, IsWithinLimit, AreBooks, AreCharges, with_account, quoted, quote_of, Account, Fits}
 use Rattle.esr_history.proofs.Lists.{find_none_all}
 
 abbrev more : ℕ → Account → Account
@@ -35,26 +36,74 @@ query_open = open_where (λ a. is_query_kind a.kind)
 pub update_open : (t : ℕ) (xs : List Account) → is_open_update xs t ≡ true → is_open xs t ≡ true
 update_open = open_where (λ a. not (is_query_kind a.kind))
 
-module _ (t n : ℕ) where
-  raised_above : (xs : List Account) → AllByRecursion (λ y. t < number y) xs → raised t n xs ≡ xs
-  raised_above [] all = refl
-  raised_above (x ∷ xs) all =
-      let l : t < number x = all.0 in
-      rw (ne_eqb (number x) t (λ (e : number x ≡ t). omega arith)) (ap (λ ys. x ∷ ys) (raised_above xs all.1))
+-- a change of the account of one number
+module _ (t : ℕ) (f : Account → Account) where
+  abbrev changed : List Account → List Account
+  changed xs = map (λ a. if number a == t then f a else a) xs
 
-  later : (x : Account) (xs : List Account) → number x ≡ t → AllByRecursion (λ y. number x < number y) xs → raised t n xs ≡ xs
-  later x xs e all = raised_above xs (subst (λ k. AllByRecursion (λ y. k < number y) xs) e all)
+  changed_above : (xs : List Account) → AllByRecursion (λ y. t < number y) xs → changed xs ≡ xs
+  changed_above [] all = refl
+  changed_above (x ∷ xs) all =
+      let l : t < number x = all.0 in
+      rw (ne_eqb (number x) t (λ (e : number x ≡ t). omega arith)) (ap (λ ys. x ∷ ys) (changed_above xs all.1))
+
+  changed_later : (x : Account) (xs : List Account) → number x ≡ t → AllByRecursion (λ y. number x < number y) xs → changed xs ≡ xs
+  changed_later x xs e all = changed_above xs (subst (λ k. AllByRecursion (λ y. k < number y) xs) e all)
 
   -- the account at the number's place
-  pub raised_at : (xs : List Account) (i : ℕ) (d : Account) → IsAscendingBy number xs → IsPlaceOf number xs t i → set xs i (more n (get_or xs i d)) ≡ raised t n xs
-  raised_at [] i d asc place = absurd (omega (arith, place.in_range))
-  raised_at (x ∷ xs) zero d asc place =
+  changed_at : (xs : List Account) (i : ℕ) (d : Account) → IsAscendingBy number xs → IsPlaceOf number xs t i → set xs i (f (get_or xs i d)) ≡ changed xs
+  changed_at [] i d asc place = absurd (omega (arith, place.in_range))
+  changed_at (x ∷ xs) zero d asc place =
       let h : number x ≡ t = place.has_number d in
-      rw (eq-eqb (number x) t h) (ap (λ ys. more n x ∷ ys) (sym (later x xs h asc.0)))
-  raised_at (x ∷ xs) (suc i) d asc place =
+      rw (eq-eqb (number x) t h) (ap (λ ys. f x ∷ ys) (sym (changed_later x xs h asc.0)))
+  changed_at (x ∷ xs) (suc i) d asc place =
       let h : number (get_or xs i d) ≡ t = place.has_number d in
       let r : number x < number (get_or xs i d) = All-from_recursion (λ y. number x < number y) xs asc.0 i d (omega (arith, place.in_range)) in
-      rw (ne_eqb (number x) t (λ (e : number x ≡ t). omega arith)) (ap (λ ys. x ∷ ys) (raised_at xs i d asc.1 (place_tail number x xs t i place)))
+      rw (ne_eqb (number x) t (λ (e : number x ≡ t). omega arith)) (ap (λ ys. x ∷ ys) (changed_at xs i d asc.1 (place_tail number x xs t i place)))
+
+module _ (t n : ℕ) where
+  later : (x : Account) (xs : List Account) → number x ≡ t → AllByRecursion (λ y. number x < number y) xs → raised t n xs ≡ xs
+  later = changed_later t (more n)
+
+  pub raised_at : (xs : List Account) (i : ℕ) (d : Account) → IsAscendingBy number xs → IsPlaceOf number xs t i → set xs i (more n (get_or xs i d)) ≡ raised t n xs
+  raised_at = changed_at t (more n)
+
+  pub lowered_at : (xs : List Account) (i : ℕ) (d : Account) → IsAscendingBy number xs → IsPlaceOf number xs t i → set xs i (record (get_or xs i d) { amount = (get_or xs i d).amount - n }) ≡ lowered t n xs
+  lowered_at = changed_at t (λ a. record a { amount = a.amount - n })
+
+  -- an amount that was added is subtracted
+  pub lowered_raised : (xs : List Account) → lowered t n (raised t n xs) ≡ xs
+  lowered_raised [] = refl
+  lowered_raised (x ∷ xs) =
+      elim (cases_Bool (number x == t)) [
+        | inl here ↦
+            let same : x.amount + n - n ≡ x.amount = omega arith in
+            rw (here, here) (ap (λ m. record x { amount = m } ∷ lowered t n (raised t n xs)) same ∙ ap (λ ys. x ∷ ys) (lowered_raised xs))
+        | inr away ↦ rw (away, away) (ap (λ ys. x ∷ ys) (lowered_raised xs))
+      ]
+
+  pub raised_enough : (xs : List Account) → is_open xs t ≡ true → n ≤ account_amount (raised t n xs) t
+  raised_enough [] is = absurd (false≢true is)
+  raised_enough (x ∷ xs) is =
+      elim (cases_Bool (number x == t)) [
+        | inl here ↦ rw (here, here) (omega arith)
+        | inr away ↦ rw (away, away) (raised_enough xs (rw away at is))
+      ]
+
+  pub open_raised : (s : ℕ) (xs : List Account) → is_open xs s ≡ true → is_open (raised t n xs) s ≡ true
+  open_raised s [] is = is
+  open_raised s (x ∷ xs) is =
+      elim (cases_Bool (number x == s)) [
+        | inl here ↦ or_left (number (if number x == t then more n x else x) == s) (is_open (raised t n xs) s) (ap (λ k. k == s) (number_same x) ∙ here)
+        | inr away ↦ or_right (number (if number x == t then more n x else x) == s) (is_open (raised t n xs) s) (open_raised s xs (rw away at is))
+      ]
+    where
+      number_same : (x : Account) → number (if number x == t then more n x else x) ≡ number x
+      number_same x = at (number x == t)
+        where
+          at : (b : Bool) → number (if b then more n x else x) ≡ number x
+          at true = refl
+          at false = refl
 
   number_stays : (x : Account) → number (if number x == t then more n x else x) ≡ number x
   number_stays x = at (number x == t)
@@ -132,9 +181,29 @@ pub charged_to_queries-push : (xs : List Account) (cs : List (TxnId × ℕ)) (c 
 charged_to_queries-push xs [] c = refl
 charged_to_queries-push xs (b ∷ cs) c = charged_to_queries-push (raised b.0.0 b.1 xs) cs c
 
+-- and the last of some charges
+pub charged_more : (xs : List Account) (cs : List (TxnId × ℕ)) (i : ℕ) (d : TxnId × ℕ) → i < length cs
+    → charged_to_queries xs (take (i + 1) cs) ≡ raised (get_or cs i d).0.0 (get_or cs i d).1 (charged_to_queries xs (take i cs))
+charged_more xs cs i d l = ap (charged_to_queries xs) (take_more cs i d l) ∙ charged_to_queries-push xs (take i cs) (get_or cs i d)
+
+pub charged_last : (xs : List Account) (cs : List (TxnId × ℕ)) (i : ℕ) (d : TxnId × ℕ) → 0 < i → i ≤ length cs
+    → charged_to_queries xs (take i cs) ≡ raised (get_or cs (i - 1) d).0.0 (get_or cs (i - 1) d).1 (charged_to_queries xs (take (i - 1) cs))
+charged_last xs cs i d low high =
+    let same : i ≡ i - 1 + 1 = omega arith in
+    ap (λ n. charged_to_queries xs (take n cs)) same ∙ charged_more xs cs (i - 1) d (omega arith)
+
 pub imported_ascends : (cs : List (TxnId × ℕ)) (xs : List Account) → IsAscendingBy number xs → IsAscendingBy number (charged_to_queries xs cs)
 imported_ascends [] xs asc = asc
 imported_ascends (c ∷ cs) xs asc = imported_ascends cs (raised c.0.0 c.1 xs) (raised_ascends c.0.0 c.1 xs asc)
+
+-- accounts stay open
+pub open_imported : (s : ℕ) (cs : List (TxnId × ℕ)) (xs : List Account) → is_open xs s ≡ true → is_open (charged_to_queries xs cs) s ≡ true
+open_imported s [] xs is = is
+open_imported s (c ∷ cs) xs is = open_imported s cs (raised c.0.0 c.1 xs) (open_raised c.0.0 c.1 s xs is)
+
+-- a limit is passed if and only if that of the same account is
+pub same_pass : (xs ys : List Account) (t n : ℕ) → account_of xs t ≡ account_of ys t → would_pass xs t n ≡ would_pass ys t n
+same_pass xs ys t n same = ap (λ (a : Option Account). nat_lt (unwrap_or (option_map (λ (e : Account). e.limit) a) 0) (unwrap_or (option_map (λ (e : Account). e.amount) a) 0 + n)) same
 
 -- a transaction that is not charged keeps its account
 pub account_imported_other : (s : ℕ) (cs : List (TxnId × ℕ)) (xs : List Account) → AllByRecursion (λ c. s ≡ c.0.0 → ⊥) cs → account_of (charged_to_queries xs cs) s ≡ account_of xs s
@@ -235,6 +304,18 @@ amount_within t (x ∷ xs) all =
       | inr away ↦ rw away (amount_within t xs all.1)
     ]
 
+pub found_within : (t : ℕ) (accounts : List Account) (a : Account) → AllByRecursion IsWithinLimit accounts → account_of accounts t ≡ Some a → a.amount ≤ a.limit
+found_within t accounts a within found =
+    let le : account_amount accounts t ≤ limit_at accounts t = amount_within t accounts within in
+    rw found at le
+
+pub more_than_left : (amount limit n : ℕ) → amount ≤ limit → nat_lt (limit - amount) n ≡ nat_lt limit (amount + n)
+more_than_left amount limit n within =
+    elim (cases_lt limit (amount + n)) [
+      | inl more ↦ rw (lt-ltb limit (amount + n) more, lt-ltb (limit - amount) n (omega (arith, more, within))) refl
+      | inr enough ↦ rw (le-ltb limit (amount + n) enough, le-ltb (limit - amount) n (omega (arith, enough, within))) refl
+    ]
+
 pub limit_small : (t : ℕ) (xs : List Account) → AllByRecursion IsWithinLimit xs → limit_at xs t < 2 ^ 64
 limit_small t [] all = omega arith
 limit_small t (x ∷ xs) all =
@@ -253,6 +334,13 @@ module _ (xs : List Account) (total : ℕ) (books : AreBooks xs total) (u : TxnI
   pub all_open : All (λ (c : TxnId × ℕ). is_open xs c.0.0 ≡ true) cs
   all_open = All-weaker (λ (c : TxnId × ℕ). is_open_query xs c.0.0 ≡ true) (λ (c : TxnId × ℕ). is_open xs c.0.0 ≡ true) (λ c is. query_open c.0.0 xs is) cs are.queries
 
+  pub account_stays : account_of (charged_to_queries xs cs) u.0 ≡ account_of xs u.0
+  account_stays = account_imported_other u.0 cs xs (not_charged xs u.0 cs are.update (recursion_from_All (λ (c : TxnId × ℕ). is_open_query xs c.0.0 ≡ true) cs are.queries))
+
+  -- the quote of charges to queries that fit
+  pub quote_is : (over : Bool) → find (λ (c : TxnId × ℕ). would_pass xs c.0.0 c.1) cs ≡ None → would_pass xs u.0 (total_of cs) ≡ over → quote_of xs u cs ≡ quoted None over u
+  quote_is over none is = ap (λ (f : Option (TxnId × ℕ)). quoted f (would_pass xs u.0 (total_of cs)) u) none ∙ ap (λ b. quoted None b u) is
+
   module _ (fits : quote_of xs u cs ≡ Fits) where
     parts : (find (λ (c : TxnId × ℕ). would_pass xs c.0.0 c.1) cs ≡ None) × (would_pass xs u.0 (total_of cs) ≡ false)
     parts = quote_fits (find (λ (c : TxnId × ℕ). would_pass xs c.0.0 c.1) cs) (would_pass xs u.0 (total_of cs)) u fits
@@ -268,9 +356,6 @@ module _ (xs : List Account) (total : ℕ) (books : AreBooks xs total) (u : TxnI
         let le : account_amount xs u.0 + total_of cs ≤ limit_at xs u.0 = ltb-false (limit_at xs u.0) (account_amount xs u.0 + total_of cs) parts.1 in
         let lim : limit_at xs u.0 < 2 ^ 64 = limit_small u.0 xs books.within in
         omega arith
-
-    pub account_stays : account_of (charged_to_queries xs cs) u.0 ≡ account_of xs u.0
-    account_stays = account_imported_other u.0 cs xs (not_charged xs u.0 cs are.update (recursion_from_All (λ (c : TxnId × ℕ). is_open_query xs c.0.0 ≡ true) cs are.queries))
 
     pub export_fits_then : account_amount (charged_to_queries xs cs) u.0 + total_of cs < 2 ^ 64
     export_fits_then = subst (λ (a : Option Account). unwrap_or (option_map (λ (e : Account). e.amount) a) 0 + total_of cs < 2 ^ 64) (sym account_stays) export_fits

@@ -1,5 +1,5 @@
 -- The accounts of transactions: the imports of queries and the exports of updates.
-use Rattle.std.specs.Prelude.{◌≡◌, ℕ, ◌+◌, ◌<◌, ◌≤◌, ◌^◌, List, [], ◌∷◌, Bool, true, false, not, ◌==◌, nat_lt, Option, None, Some, unwrap_or, find, map, sum_by, All, if◌then◌else◌, option_map}
+use Rattle.std.specs.Prelude.{◌≡◌, ℕ, ◌+◌, ◌<◌, ◌≤◌, ◌^◌, List, [], ◌∷◌, ◌-◌, Bool, true, false, not, ◌==◌, nat_lt, Option, None, Some, unwrap_or, find, map, sum_by, All, if◌then◌else◌, option_map}
 use Rattle.std.specs.List.{list_any, AllByRecursion}
 use Rattle.esr_base.specs.declared.numbers.TxnId.{TxnId}
 use Rattle.esr_history.specs.Ascending.{IsAscendingBy, upserted}
@@ -61,6 +61,10 @@ quote_of accounts u charges =
 abbrev pub raised : ℕ → ℕ → List Account → List Account
 raised t amount accounts = map (λ a. if number a == t then record a { amount = a.amount + amount } else a) accounts
 
+-- an amount subtracted from the account of a transaction
+abbrev pub lowered : ℕ → ℕ → List Account → List Account
+lowered t amount accounts = map (λ a. if number a == t then record a { amount = a.amount - amount } else a) accounts
+
 -- each query's amount added to its account
 abbrev pub charged_to_queries : List Account → List (TxnId × ℕ) → List Account
 charged_to_queries accounts [] = accounts
@@ -69,6 +73,12 @@ charged_to_queries accounts (c ∷ charges) = charged_to_queries (raised c.0.0 c
 -- and the sum to that of the update
 abbrev pub charged : List Account → TxnId → List (TxnId × ℕ) → List Account
 charged accounts u charges = raised u.0 (total_of charges) (charged_to_queries accounts charges)
+
+-- the accounts after charges with this quote: charged if they fit, and otherwise unchanged
+abbrev pub booked : Quote → List Account → TxnId → List (TxnId × ℕ) → List Account
+booked Fits accounts u charges = charged accounts u charges
+booked (Import q) accounts u charges = accounts
+booked (Export v) accounts u charges = accounts
 
 -- the charges are of an update that was opened, to queries that were opened, each listed once
 pub record AreCharges (accounts : List Account) (u : TxnId) (charges : List (TxnId × ℕ)) : Type 0 where

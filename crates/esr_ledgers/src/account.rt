@@ -3,9 +3,10 @@
 //! Accounts contain their numbers, by which they ascend and are found. So the numbers may have gaps. If they are 1, 2,
 //! 3 and so on, as in the machine, the first look-up finds the account.
 
-ghost use Rattle.std.specs.Prelude.{◌≡◌, ◌+◌, ◌<◌, ◌^◌, true, Some, IfOk, IfErr, IsTrue, length};
+ghost use Rattle.std.specs.Prelude.{◌≡◌, ◌+◌, ◌<◌, ◌≤◌, ◌^◌, true, Some, IfOk, IfErr, IsTrue, length, if◌then◌else◌};
+ghost use Rattle.std.specs.List.{AllByRecursion};
 ghost use Rattle.esr_history.specs.Ascending.{IsAscendingBy, IsPlaceOf, IsGapFor};
-ghost use Rattle.esr_ledgers.specs.Books.{number, account_of, is_open, account_amount, raised};
+ghost use Rattle.esr_ledgers.specs.Books.{number, account_of, is_open, account_amount, raised, lowered, would_pass, IsWithinLimit};
 
 use esr_history::{BeginKind, TxnId};
 
@@ -91,4 +92,37 @@ pub fn raise(accounts: &mut Vec<Account>, t: TxnId, amount: u64)
     let at = index_of(accounts, t);
     let account = &mut accounts[at];
     account.amount += amount;
+}
+
+/// Returns whether an additional amount would exceed the limit of a transaction. If not, adds the amount to its account. It
+/// compares the amount with the unused part of the limit, and is inlined, because for a charge of 64 bits the compiler
+/// then compares 64 bits.
+#[inline(always)]
+pub fn passes_or_raises(accounts: &mut Vec<Account>, t: TxnId, amount: u128) -> bool
+    requires ascending { IsAscendingBy number accounts.old.items }
+    requires within { AllByRecursion IsWithinLimit accounts.old.items }
+    requires open { is_open accounts.old.items t.0 ≡ true }
+    ensures passes { result ≡ would_pass accounts.old.items t.0 amount }
+    ensures items { accounts.new.items
+        ≡ (if result then accounts.old.items else raised t.0 amount accounts.old.items) }
+{
+    let at = index_of(accounts, t);
+    let account = &mut accounts[at];
+    if amount > u128::from(account.limit - account.amount) {
+        return true;
+    }
+    account.amount += amount as u64;
+    false
+}
+
+/// Subtracts an amount from the account of a transaction.
+pub fn lower(accounts: &mut Vec<Account>, t: TxnId, amount: u64)
+    requires ascending { IsAscendingBy number accounts.old.items }
+    requires open { is_open accounts.old.items t.0 ≡ true }
+    requires enough { amount ≤ account_amount accounts.old.items t.0 }
+    ensures { accounts.new.items ≡ lowered t.0 amount accounts.old.items }
+{
+    let at = index_of(accounts, t);
+    let account = &mut accounts[at];
+    account.amount -= amount;
 }

@@ -3,12 +3,13 @@
 //! One number is both totals, because the type makes imports and exports equal. Sums that could overflow 64 bits use
 //! 128 bits.
 
-ghost use Rattle.std.specs.Prelude.{◌≡◌, ◌+◌, ◌<◌, ◌≤◌, ◌^◌, [], true, false, All, None, Some, IfOk, IfErr, OnOk, OnErr, find, length};
+ghost use Rattle.std.specs.Prelude.{List, ◌≡◌, ◌+◌, ◌<◌, ◌≤◌, ◌^◌, [], true, false, All, None, Some, IfOk, IfErr, OnOk, OnErr, find, length, take};
 ghost use Rattle.std.specs.List.{AllByRecursion, insert};
 ghost use Rattle.esr_history.specs.Ascending.{IsAscendingBy};
-ghost use Rattle.esr_ledgers.specs.Books.{number, is_open, is_open_query, is_open_update, account_amount, new_account, with_account, total_of, would_pass, quote_of, charged_to_queries, charged, AreCharges, IsWithinLimit, imports, exports};
+ghost use Rattle.esr_ledgers.specs.declared.account.Account.{Account};
+ghost use Rattle.esr_ledgers.specs.Books.{number, is_open, is_open_query, is_open_update, account_amount, new_account, with_account, total_of, would_pass, quote_of, charged_to_queries, charged, AreCharges, IsWithinLimit, imports, exports, booked};
 
-use crate::account::{Account, find_account, place_of, raise};
+use crate::account::{Account, find_account, lower, passes_or_raises, place_of, raise};
 use esr_history::{BeginKind, NoMemory, TxnId};
 use std::alloc::{AllocError, Global};
 use std::marker::Model;
@@ -113,6 +114,55 @@ fn import_each(accounts: &mut Vec<Account>, charges: &[(TxnId, u64)]) -> u128
     imported
 }
 
+/// Subtracts the amounts of the first `count` charges, which were added, from the accounts of their queries.
+#[cold]
+#[inline(never)]
+fn undo_imports(accounts: &mut Vec<Account>, charges: &[(TxnId, u64)], count: usize)
+    requires count { count ≤ length charges.now }
+    requires added { (before : List Account) × (IsAscendingBy number before)
+        × (All (λ c. is_open before c.0.0 ≡ true) charges.now)
+        × (accounts.old.items ≡ charged_to_queries before (take count charges.now)) }
+    ensures { (before : List Account) → accounts.old.items ≡ charged_to_queries before (take count charges.now)
+        → accounts.new.items ≡ before }
+{
+    for i in (0..count).rev() {
+        let (q, amount) = charges[i];
+        lower(accounts, q, amount);
+    }
+}
+
+/// Adds each amount to the account of its query, and returns their sum. If the limit of a query would be exceeded, changes
+/// nothing, and returns the first such charge. Each account is found once, because few charges are refused.
+#[inline(always)]
+fn import_within(
+    accounts: &mut Vec<Account>,
+    charges: &[(TxnId, u64)],
+) -> Result<u128, (TxnId, u64)>
+    requires ascending { IsAscendingBy number accounts.old.items }
+    requires within { AllByRecursion IsWithinLimit accounts.old.items }
+    requires queries { All (λ c. is_open accounts.old.items c.0.0 ≡ true) charges.now }
+    requires listed { IsAscendingBy (λ c. c.0.0) charges.now }
+    ensures over { IfErr result (λ c. find (λ c. would_pass accounts.old.items c.0.0 c.1) charges.now ≡ Some c) }
+    ensures unchanged { OnErr result (accounts.new.items ≡ accounts.old.items) }
+    ensures none_over { OnOk result (find (λ c. would_pass accounts.old.items c.0.0 c.1) charges.now ≡ None) }
+    ensures items { OnOk result (accounts.new.items ≡ charged_to_queries accounts.old.items charges.now) }
+    ensures ascending { OnOk result (IsAscendingBy number accounts.new.items) }
+    ensures within { OnOk result (AllByRecursion IsWithinLimit accounts.new.items) }
+    ensures sum { IfOk result (λ total. total ≡ total_of charges.now) }
+    ensures upper_bound { IfOk result (λ total. total < 2 ^ 127) }
+{
+    let mut total: u128 = 0;
+    for i in 0..charges.len() {
+        let (q, amount) = charges[i];
+        if passes_or_raises(accounts, q, u128::from(amount)) {
+            undo_imports(accounts, charges, i);
+            return Err((q, amount));
+        }
+        total += u128::from(amount);
+    }
+    Ok(total)
+}
+
 impl Ledgers {
     /// Ledgers with no account.
     pub fn new(alloc: Global) -> Ledgers
@@ -206,6 +256,25 @@ impl Ledgers {
         let total = import_each(&mut self.accounts, charges);
         raise(&mut self.accounts, u, total as u64);
         self.total += total;
+    }
+
+    /// Returns whether the charges of an update fit all limits, or else the transaction whose limit they exceed, like
+    /// `quote`. If they fit, adds them, like `charge`. Otherwise it changes nothing.
+    pub fn try_charge(&mut self, u: TxnId, charges: &[(TxnId, u64)]) -> Quote
+        requires { AreCharges self.old u charges.now }
+        ensures quote { result ≡ quote_of self.old u charges.now }
+        ensures ledgers { self.new ≡ booked result self.old u charges.now }
+    {
+        let total = match import_within(&mut self.accounts, charges) {
+            Ok(total) => total,
+            Err((q, _)) => return Quote::Import(q),
+        };
+        if passes_or_raises(&mut self.accounts, u, total) {
+            undo_imports(&mut self.accounts, charges, charges.len());
+            return Quote::Export(u);
+        }
+        self.total += total;
+        Quote::Fits
     }
 
     /// Returns the amount that a query has imported.

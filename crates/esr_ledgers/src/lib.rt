@@ -2,7 +2,7 @@
 //!
 //! The type's invariant states that no import or export exceeds its limit and that the total import equals the total
 //! export, so a caller cannot violate either. `quote` returns the transaction whose limit a charge would exceed;
-//! `charge` records the charge on both sides in one step.
+//! `charge` records the charge on both sides in one step. `try_charge` does both, and finds each account once.
 #![tactic(auto)]
 
 mod account;

@@ -45,3 +45,28 @@ fn an_update_that_is_full_is_named(rt: HostRuntime) {
     assert!(rt; ledgers.quote(u, &[(q, 5)]) == Quote::Export(u));
     assert!(rt; ledgers.totals() == (0, 0));
 }
+
+/// A charge within all limits is booked with its check. One that exceeds a limit is refused and changes no account.
+#[test]
+fn a_charge_is_checked_and_booked_together(rt: HostRuntime) {
+    check_charges(&rt, &mut Ledgers::new(rt.alloc()));
+}
+
+fn check_charges(rt: &impl Abort, ledgers: &mut Ledgers)
+    requires { ledgers.old ≡ [] }
+{
+    let q = TxnId(1);
+    let r = TxnId(7);
+    let u = TxnId(3);
+    ledgers.open_query(r, 5).expect(rt, "memory");
+    ledgers.open_query(q, 10).expect(rt, "memory");
+    ledgers.open_update(u, 14).expect(rt, "memory");
+    assert!(rt; ledgers.try_charge(u, &[(q, 10), (r, 6)]) == Quote::Import(r));
+    assert!(rt; ledgers.try_charge(u, &[(q, 10), (r, 5)]) == Quote::Export(u));
+    assert!(rt; ledgers.totals() == (0, 0));
+    assert!(rt; ledgers.try_charge(u, &[(q, 10), (r, 4)]) == Quote::Fits);
+    assert!(rt; ledgers.import(q) == 10);
+    assert!(rt; ledgers.import(r) == 4);
+    assert!(rt; ledgers.export(u) == 14);
+    assert!(rt; ledgers.totals() == (14, 14));
+}
