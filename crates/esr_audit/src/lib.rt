@@ -1,8 +1,8 @@
 //! Audits of committed queries: the minimum distance of a query's reads from any serial placement, with a certificate.
 //!
 //! An audit needs only a history. It builds the query's problem, restricted to the relevant updates, solves it, and returns a
-//! finding. A certificate is meaningless without its problem. That the problem is the query's is a promise of this crate
-//! (`IsProblemOf`), not of the checker.
+//! finding. A certificate is meaningless without its problem. This crate, not the checker, promises that the problem is the
+//! query's (`IsProblemOf`).
 #![tactic(auto)]
 
 mod audit;

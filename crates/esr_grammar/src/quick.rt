@@ -1,12 +1,12 @@
-//! The most frequent lines of scripts, read in one pass: each byte is classified once, those of the two names of a read or
-//! a write together, sixteen at a time.
+//! Parses the most frequent lines of scripts in one pass. The bytes of the two names of a read or a write are classified
+//! together, sixteen at a time.
 //!
-//! The names of a read are among the last sixteen bytes of most lines, those of a write among the first sixteen bytes
-//! after the first word. If there are only eight to fifteen bytes, the sixteen are the first and the last eight of them.
-//! Other names are tested eight bytes at a time, and long ones byte by byte.
+//! The names of a read are among the last sixteen bytes of most lines, those of a write among the first sixteen bytes after the
+//! first word. Of eight to fifteen bytes, the first eight and the last eight are classified, which overlap. Other names are
+//! tested eight bytes at a time, and long ones byte by byte.
 //!
-//! The line is the text of the returned command. If none is returned, the words of the line decide (`parse`), so this
-//! module need not recognize every line.
+//! The line is the one spelling of the returned command. If none is returned, `parse` decides, so this module need not
+//! recognize every line.
 
 ghost use Rattle.std.specs.Prelude.{◌≡◌, ℕ, ◌+◌, ◌/◌, ◌≤◌, ◌^◌, List, ◌∷◌, ◌++◌, IfSome, Some, codes, length, map, drop, option_map};
 ghost use Rattle.std.specs.List.{list_all, position};

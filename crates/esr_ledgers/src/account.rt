@@ -1,7 +1,7 @@
 //! Defines the account of a transaction: its limit, the amount charged to it, and its kind.
 //!
-//! Accounts contain their numbers, by which they ascend and are found. So the numbers may have gaps. If they are 1, 2,
-//! 3 and so on, as in the machine, the first look-up finds the account.
+//! Accounts are sorted by transaction number, and the numbers may have gaps. If they are 1, 2, 3 and so on, as in the machine,
+//! an account is found without a search.
 
 ghost use Rattle.std.specs.Prelude.{◌≡◌, ◌+◌, ◌<◌, ◌≤◌, ◌^◌, true, Some, IfOk, IfErr, IsTrue, length, if◌then◌else◌};
 ghost use Rattle.std.specs.List.{AllByRecursion};

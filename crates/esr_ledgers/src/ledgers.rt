@@ -1,7 +1,6 @@
 //! The accounts together, their quotes and their charges.
 //!
-//! One number is both totals, because the type makes imports and exports equal. Sums that could overflow 64 bits use
-//! 128 bits.
+//! One field holds both totals, because the invariant makes them equal. Sums that could overflow 64 bits use 128 bits.
 
 ghost use Rattle.std.specs.Prelude.{List, ◌≡◌, ◌+◌, ◌<◌, ◌≤◌, ◌^◌, [], true, false, All, None, Some, IfOk, IfErr, OnOk, OnErr, find, length, take};
 ghost use Rattle.std.specs.List.{AllByRecursion, insert};

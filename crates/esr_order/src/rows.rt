@@ -1,16 +1,14 @@
 //! Records the reads and writes of committed updates while the history grows.
 //!
-//! An update does nothing after it has committed. So its accesses are fixed then: they are listed once, along the links
-//! of the log, and stored in a row by the update's number. An audit reads the row twice, to find the relevant updates and
-//! to gather pairs and chains. Without rows, 251 audits of one script walked along the links of 65,000 updates 251
-//! times, from entry to entry. The rows are consecutive in one list, in commit order, which is the order in which
-//! audits read them.
+//! An update does nothing after it has committed. So its accesses are fixed then: they are listed once, along the links of the
+//! log, and stored in a row, found by transaction number. An audit reads the row twice, to find the relevant updates and to
+//! gather pairs and chains. Without rows, 251 audits of one script walked along the links of 65,000 updates 251 times, from
+//! entry to entry. The rows are consecutive in one list, in commit order, which is the order in which audits read them.
 //!
-//! A missing row, for example that of a query, is listed along the links. So the result does not depend on which rows
-//! exist, and an audit without any rows (`AccessRows::new`) finds the same. Rejected: storing the pairs into each
-//! update, with a chain for each item, which are fixed too. They take 4 bytes for a pair and 12 for a write, where a
-//! row takes 16 for an operation, and the pairs would have to be sorted for each query, since they are listed by their
-//! first update.
+//! A missing row, for example that of a query, is listed along the links. So the result does not depend on which rows exist,
+//! and an audit without any rows (`AccessRows::new`) finds the same. Rejected: storing instead the pairs that end in each
+//! update, and a chain for each item, which are fixed too. They take 4 bytes for a pair and 12 for a write instead of 16 for an
+//! operation, but an order lists pairs by their first update, so they would have to be sorted for each query.
 use crate::accesses::{Access, list_accesses};
 use crate::scan::is_update;
 use esr_history::{History, TxnId};

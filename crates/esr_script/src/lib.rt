@@ -1,8 +1,8 @@
 //! Runs a script line by line, from bytes to bytes.
 //!
-//! The output of a run is a definition over all bytes (`specs/Text`: `outcome`). It has one clause for each variant of
-//! a reply and of a refusal, and no catch-all, so no line can be omitted unnoticed. The same loop over lines serves the
-//! subcommands that discard the output of the lines: audits of whole scripts, and all texts about one query.
+//! The output of a run is defined for every input (`specs/Text`: `outcome`). The definition has one clause for each variant of
+//! a reply and of a refusal, and no catch-all, so no line can be omitted unnoticed. The same loop serves the subcommands that
+//! discard the output of the lines: audits of whole scripts, and all texts about one query.
 #![tactic(auto)]
 
 mod answers;

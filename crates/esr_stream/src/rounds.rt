@@ -1,18 +1,18 @@
 //! Rounds. A round makes a pass, which marks updates that every closed set of the bound's cost contains, and then marks the
-//! predecessors of marked updates. So the marked set is closed after each round. The rounds end when one over all updates adds
-//! no predecessor.
+//! predecessors of marked updates. So the marked set is closed after each round. The rounds end when one reaches the last
+//! update and adds no predecessor.
 //!
 //! Between two rounds, all updates before a position are marked, and the states at this position are known. The next pass starts
 //! there, and keeps the states at two *stops*. Later passes start at the last stop before which all updates are marked. One stop
 //! is the end of the last pass, in the first round a guess of the caller. The other one is the first update that is not marked
 //! when the round starts.
 //!
-//! After the first update that a pass leaves without a mark, it soon finds few updates to mark, until the predecessors of marked
-//! updates are marked. So it ends early after `MAX_UNMARKED` updates in a row without a mark. Its marks are sound if no later
-//! update decreases the sum of the amounts less the loans, starting from the states at its end (`IsEnough`). This is an assumption
-//! until a pass has visited the later updates. The next pass must have the same amounts at this position, which is tested at run
-//! time. Then the assumption about its own end implies the one about the end of the last pass. At the last update nothing is left
-//! to assume.
+//! Once a pass has left an update without a mark, it soon finds few more to mark until predecessors have been marked. So it
+//! ends early after `MAX_UNMARKED` updates in a row without a mark. Its marks are sound if no later update decreases the sum of
+//! the amounts less the loans, starting from the states at its end (`IsEnough`). This is an assumption until a pass has visited
+//! the later updates. The next pass must have the same amounts and loans at this position, which is tested at run time. Then
+//! the assumption about its own end implies the one about the end of the last pass. At the last update nothing is left to
+//! assume.
 //!
 //! The number of visits is bounded, and not the number of rounds, since a round that starts late is short.
 //!
