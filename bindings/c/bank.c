@@ -1,5 +1,5 @@
-/* A bank: tellers move money between accounts, each on its own thread, while a report sums all accounts. The report does not wait,
- * and may be off by at most its limit; afterwards its audit computes the error. */
+/* A bank: tellers move money between accounts, each on its own thread, while a report sums all accounts. No lock blocks the
+ * report, which may be off by at most its limit; afterwards its audit computes the error. */
 #define _POSIX_C_SOURCE 200809L
 #include "esr.h"
 #include <pthread.h>

@@ -22,7 +22,7 @@
  *
  * After a refusal, that is, a reply of kind ESR_REFUSED, no value, lock or charge has changed, and the history has one more
  * entry. The last three refusals are temporary: the same event may succeed after another transaction has ended, so retry
- * after a pause, or abort. Two updates that read an item and then write it block each other forever: read an item that you
+ * after a pause, or abort. Two updates that have both read an item block each other from writing it: read an item that you
  * will write with esr_read_for_update.
  *
  * An engine is never stuck. It reserves one entry for the end of each active transaction. An event for which no other
@@ -31,8 +31,8 @@
  * esr_renew_carrying, which carries the active transactions over, or esr_renew_aborting, which aborts them. After a renewal,
  * transactions are numbered from 1 again: an old number may belong to another transaction.
  *
- * These calls return a status and have no other effect: calls before esr_open or after esr_close, opening or closing twice,
- * unknown numbers of transactions and items, values and limits out of range. Several engines may be open at once.
+ * Calls before esr_open or after esr_close, and opening or closing twice, change nothing. Unknown numbers of transactions
+ * and items, and values and limits out of range, cause a status or a refusal. Several engines may be open at once.
  *
  * Texts. Items and transactions have numbers, and texts have names: `t1` for transaction 1, and for the items the names
  * passed by the caller, one on each line ("checking\nsavings", without a line feed at the end), or `i0`, `i1` if the list
@@ -76,8 +76,8 @@ extern "C" {
 #define ESR_LARGEST_LIMIT ESR_MAX_LIMIT
 #define ESR_LARGEST_WEIGHT ESR_MAX_WEIGHT
 
-/* The status of a call. Unless it is ESR_DONE, nothing has changed, with four exceptions. With ESR_TOO_SMALL the call has
- * stored the count, and esr_audit the whole finding; the buffer is unchanged. esr_read_for_update may have taken the lock
+/* The status of a call. Unless it is ESR_DONE, nothing has changed, with four exceptions. With ESR_TOO_SMALL all but esr_do
+ * have stored the count, and esr_audit the finding; the buffer is unchanged. esr_read_for_update may have taken the lock
  * before it returns ESR_NO_MEMORY. esr_do has executed the earlier events. esr_renew_carrying has stored the count also
  * with ESR_NO_MEMORY. */
 typedef uint32_t esr_status;

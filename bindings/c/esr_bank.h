@@ -51,8 +51,8 @@
 extern "C" {
 #endif
 
-/* A history with a transaction that was carried into it is renewed when it has grown by its entries at the opening and this
- * number: a renewal that carries takes a time for each entry, in which all threads wait. */
+/* A history into which a transaction was carried is renewed at this number of entries plus twice those at its opening: a
+ * renewal that carries takes a time for each entry, in which all threads wait. */
 #define ESR_BANK_SHORT 100000u
 
 typedef enum esr_bank_result {
@@ -77,8 +77,8 @@ static inline const char *esr_bank_result_text(esr_bank_result result) {
     }
 }
 
-/* The audit of a report. If it was carried over renewals, its distance is an upper bound, and `count` is 0: what it has read
- * is off by at most its charges over all histories. Otherwise the distance is exact, as in esr_finding. */
+/* The audit of a report. If it was carried over renewals, its distance is an upper bound, and `count` is 0: its reads are
+ * off by at most its charges over all histories. Otherwise the distance is exact, as in esr_finding. */
 typedef struct esr_bank_finding {
     uint64_t distance, import;
     size_t count;
@@ -104,7 +104,7 @@ typedef struct esr_bank_txn {
     struct esr_bank_txn *next; /* among the active ones */
     uint32_t txn;          /* its number, for esr_explain, esr_picture and esr_bundle */
     uint64_t settled;      /* the part of its limit and of its charges that is in earlier histories only */
-    uint64_t renewals;     /* that it was carried over: if any, these calls show its repeated reads of the last history */
+    uint64_t renewals;     /* that carried it over: after one, those calls show its reads as last repeated */
     uint32_t refusal;      /* the refusal that ended it, if the result is ESR_BANK_REFUSED */
     esr_status status;     /* the status that ended it, if the result is ESR_BANK_FAILED */
     double turn, waited;   /* seconds: the turn of an event, and the time waited so far */
@@ -174,7 +174,7 @@ static inline void esr_bank_close(esr_bank *bank) {
     pthread_mutex_destroy(&bank->lock);
 }
 
-/* Gives the active transactions the numbers that they have after a renewal. The lock is held. */
+/* Assigns the active transactions their numbers after a renewal. The lock is held. */
 static inline void esr_bank_renumber(esr_bank *bank, const esr_carried *carried, size_t count) {
     for (esr_bank_txn *t = bank->active; t; t = t->next) {
         size_t i = 0;

@@ -40,7 +40,7 @@ tills = [threading.Thread(target=till, args=[seed]) for seed in range(4)]
 for thread in tills:
     thread.start()
 
-# %% Meanwhile, count the pieces, sold or not. The count does not wait, and may be off by at most 30.
+# %% Meanwhile, count the pieces, sold or not. No lock blocks the count, which may be off by at most 30.
 findings = []
 while any(thread.is_alive() for thread in tills):
     with bank.report(30) as count:

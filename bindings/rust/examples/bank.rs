@@ -1,5 +1,5 @@
-//! A bank: tellers move money between accounts, each in a separate thread, while a report adds up all accounts. The
-//! report does not wait, and may be off by at most its limit; afterwards its audit shows the exact error.
+//! A bank: tellers move money between accounts, each in a separate thread, while a report adds up all accounts. No
+//! lock blocks the report, which may be off by at most its limit; afterwards its audit shows the exact error.
 
 use esr::{Engine, Error, Patience, Txn, transact};
 use std::{error, sync::Mutex, thread, time::Duration};
@@ -17,7 +17,7 @@ fn teller(bank: &Mutex<Engine>, mut random: u32) -> Result<(), Error> {
         transact(bank, LIMIT, Patience::default(), |update| {
             let taken = update.read_for_update(from)? - 10;
             update.write(from, taken)?;
-            thread::sleep(Duration::from_micros(20)); // as long as the money is nowhere
+            thread::sleep(Duration::from_micros(20)); // while the money is in neither account
             let given = update.read_for_update(to)? + 10;
             update.write(to, given)
         })?;

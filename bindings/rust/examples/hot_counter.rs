@@ -1,4 +1,4 @@
-//! Measures a counter from which eight threads subtract (`balance -= 10`), and one thread: the median of five rounds.
+//! Compares eight threads that subtract from a counter (`balance -= 10`) with one thread: the median of five rounds.
 
 use esr::{Bank, Error};
 use std::{thread, time::Instant};

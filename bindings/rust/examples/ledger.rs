@@ -1,6 +1,6 @@
-//! A ledger service: clients send transfers from separate threads, some of which are refused for lack of money, while a
-//! clerk reads the sum of all accounts without waiting, and prints the error bound of each sum. The output is stored in
-//! ledger.out in the same folder.
+//! A ledger service: clients in separate threads send transfers, some of which are refused for lack of money, while a
+//! clerk, blocked by no lock, sums all accounts and checks the error bound of each sum. The output is stored in ledger.out
+//! in the same folder.
 
 use esr::{Bank, Error, Finding};
 use std::{
@@ -40,7 +40,7 @@ fn transfer(bank: &Bank, from: &str, to: &str, amount: i64) -> Result<(), Transf
     })
 }
 
-/// The sum of all accounts, and how far it was from a state that really was.
+/// Returns the sum of all accounts, and the finding of this report.
 fn sum(bank: &Bank) -> Result<(i64, Finding), Error> {
     bank.report(5_000, |report| {
         ACCOUNTS.iter().map(|name| report.read(name)).sum()

@@ -30,8 +30,8 @@ pub(super) const RESERVED_NUMBERS: u64 = MAX_TRANSACTIONS as u64 / 10;
 const FULL: u64 = 10_000;
 /// A renewal that frees fewer entries costs more than it gains, unless it frees transaction numbers.
 const MIN_FREED: u64 = 25_000;
-/// A history with a transaction that was carried into it is renewed when it has grown by its entries at the opening and this
-/// number: a renewal that carries takes a time for each entry, in which all threads wait.
+/// A history into which a transaction was carried is renewed at this number of entries plus twice those at its opening: a
+/// renewal that carries takes a time for each entry, in which all threads wait.
 const SHORT: u64 = 100_000;
 /// A failed renewal is retried after this time.
 pub(super) const RETRY: Duration = Duration::from_millis(100);

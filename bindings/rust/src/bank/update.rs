@@ -184,7 +184,7 @@ impl BankQuery<'_, '_> {
         self.handle.read_all(&numbers)
     }
 
-    /// Returns the inconsistency that the report has imported so far: what it has read is off by at most that.
+    /// Returns the inconsistency that the report has imported so far: its reads are off by at most that.
     ///
     /// ```
     /// let bank = esr::Bank::builder().item("checking", 500).open()?;
