@@ -64,8 +64,8 @@ MAX_ENTRIES, MAX_TRANSACTIONS = 1_000_000, 65_535
 NEARLY_FULL = 100_000
 """If no more entries are left, the engine is renewed before a transaction begins, so that active ones can continue."""
 SHORT = 100_000
-"""A history with a transaction that was carried into it is renewed when it has grown by its entries at the opening and this
-number: a renewal that carries takes a time for each entry, in which all threads wait."""
+"""A history into which a transaction was carried is renewed at this number of entries plus twice those at its opening: a renewal
+that carries takes a time for each entry, in which all threads wait."""
 RESERVE = 1_000
 """With `before_renewal` the engine is renewed when no more transactions are left, so they are there if it fails."""
 RETRY = 1.0

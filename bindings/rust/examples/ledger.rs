@@ -85,7 +85,7 @@ fn main() -> Result<(), Error> {
     });
     let (sum, finding) = sum(&bank)?;
     println!("in the end {sum}, off by {}", finding.distance);
-    println!("no sum was off by more than its audit told");
+    println!("no sum was off by more than its audit states");
     let refused = refused.into_inner().unwrap();
     println!(
         "most in an account at a refusal: {:?}",

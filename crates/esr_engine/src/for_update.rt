@@ -1,7 +1,7 @@
 //! Reads an item for an update that is going to write it.
 //!
-//! Two updates that both read an item and then write it block each other forever: each write waits for the lock that
-//! the other's read took. So this operation takes the write lock first, by a write of the item's value, which incurs no
+//! Two updates that have both read an item block each other from writing it: each write waits for the lock that the
+//! other's read took. So this operation takes the write lock first, by a write of the item's value, which incurs no
 //! charge, and then reads the value. Both are entries, as if they were separate events.
 
 ghost use Rattle.std.specs.Prelude.{◌≡◌, ◌↔◌, true, IfOk, IfErr, OnOk, IsErrOf};
