@@ -3,7 +3,7 @@
 //! In addition to the machine, the engine keeps the weights, since a history owns its metric and a renewal needs a new
 //! one; the number of active transactions; and the index that audits share. The number follows from the replies: a
 //! `Begun` adds one, a `Committed` or an `Aborted` subtracts one. The test of the capacity for an event is a sum and a
-//! comparison. Only for an end in a full history the engine looks up whether its transaction is active.
+//! comparison. The engine looks up whether a transaction is active only for its end in a full history.
 
 ghost use Rattle.std.specs.Prelude.{◌≡◌, ◌+◌, ◌<◌, ◌≤◌, ◌↔◌, true, length, All, IfOk, OnErr, IsErrOf};
 ghost use Rattle.esr_base.specs.declared.limits.TheConstants.{MAX_ENTRIES, MAX_ITEMS, MAX_TRANSACTIONS};

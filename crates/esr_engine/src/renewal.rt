@@ -3,7 +3,7 @@
 //! If no transaction is active, the machine is renewed and keeps its memory. Otherwise a new engine replaces it, and active
 //! transactions end with the history or are carried over. So the call needs no entry, and an error changes nothing. A renewal
 //! that carries transactions over keeps the replaced machine as a spare, whose memory the next one reuses. With new memory
-//! each time, 944 page faults followed a renewal of a short history, and 289 one in place.
+//! each time, 944 page faults followed a renewal of a short history; in place, 289.
 
 ghost use Rattle.std.specs.Prelude.{◌≡◌, ◌↔◌, ◌≤◌, true, List, IfOk, OnOk, OnErr, IsErrOf};
 ghost use Rattle.esr_items.specs.Weights.{weighted};

@@ -1,5 +1,5 @@
 //! The writers of an item in commit order, with the values that they left: the versions that a query's reads are
-//! compared with. They are gathered from the last to the first, and turned round once.
+//! compared with. They are gathered from the last to the first, and reversed once.
 ghost use Rattle.std.specs.Prelude.{◌≡◌, [], IfOk, OnOk, map};
 ghost use Rattle.esr_order.specs.Chains.{latest_writer, with_write, reversed_chain, links_view};
 

@@ -1,4 +1,4 @@
-//! The chain of an item as it is kept.
+//! Stores the chain of an item.
 ghost use Rattle.std.specs.Prelude.{◌≡◌, ◌-◌, length, slice_get};
 
 /// The updates that wrote an item, by their positions in commit order, and the last value that each wrote.

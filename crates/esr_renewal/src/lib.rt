@@ -3,8 +3,8 @@
 //! A history holds a limited number of transactions, so a long run consists of many histories. A renewal opens the next one
 //! with the committed values. It need not wait until nothing is active: in the new history each active transaction begins
 //! again, then the operations of active updates follow, each with the reply that it had, and then the reads of active
-//! queries, each with the current value. The distance of the values that the caller of a query has seen stays bounded, by the
-//! settled amount (below) plus the new import. The definitions are those of `esr_core` (`carried`, `IsCarriedOver`).
+//! queries, each with the current value. The values that the caller of a query has seen stay within the settled amount (below)
+//! plus the new import of the committed ones. The definitions are those of `esr_core` (`carried`, `IsCarriedOver`).
 //!
 //! A charge comes from a conflict of a query and an update. While both are active, the conflict is *open*. The *open amount*
 //! of a query is what it would be charged for repeating its reads now; that of an update is its part of these charges. The

@@ -1,6 +1,6 @@
 //! Executes the lines of the buffered bytes. A line is read in the input buffer and not copied. The observer sees
-//! each line with its outcome, and changes nothing. If the text is to be dropped, it is dropped line by line, so text
-//! that was not produced makes no difference.
+//! each line with its outcome, and changes nothing. If no one reads the text, it is cleared after each line, and a line
+//! may append none.
 
 ghost use Rattle.esr_grammar.specs.declared.limits.TheConstants.{MAX_LINES, MAX_LINE_BYTES};
 ghost use Rattle.std.specs.Prelude.{◌≡◌, ◌≢◌, ℕ, List, ◌+◌, ◌++◌, ◌≤◌, ◌⊎◌, [], Option, Err, OnOk, IfOk, IfErr, IsErrOf, false, length};

@@ -2,7 +2,7 @@
 
 use thiserror::Error;
 
-/// The reasons why a run ends before the end of its input, or a query is not certified.
+/// The reasons why a run ends before the end of its input, or a query is not shown.
 #[derive(Clone, Copy, Debug, PartialEq, Eq, Error)]
 pub enum RunFault {
     /// A read failed.
@@ -17,13 +17,13 @@ pub enum RunFault {
     /// An allocation failed.
     #[error("out of memory")]
     NoMemory,
-    /// The history has as many entries as there may be, and a line makes one more event.
+    /// The history has `MAX_ENTRIES` entries, and a line makes one more event.
     #[error("history full")]
     HistoryFull,
     /// There are more lines than `MAX_LINES`.
     #[error("too many lines")]
     TooManyLines,
-    /// The name is that of no committed query.
+    /// No committed query has the name.
     #[error("not a committed query")]
     NotACommittedQuery,
 }

@@ -128,7 +128,7 @@ impl Script {
         None
     }
 
-    /// Adds an item, with the declaration of which nothing is wrong.
+    /// Adds an item whose declaration has no error.
     fn add_item(&mut self, name: &str, value: i64, weight: u64) -> Result<(), RunFault>
         requires { item_error self.old name.now value weight ≡ None }
         ensures ok { OnOk result (self.new ≡ with_item self.old name.now value weight) }

@@ -1,5 +1,5 @@
-//! Goes over a whole script without its output. A fault at the last line leaves nothing written, since the lines are
-//! made and dropped by the code that writes them in a run.
+//! Goes over a whole script without its output: the loop of a run (`lines`), with a sink that drops the text. So even a
+//! fault at the last line leaves nothing written.
 
 ghost use Rattle.std.specs.Prelude.{◌≡◌, ℕ, List, Some, false};
 ghost use Rattle.esr_base.specs.Watch.{inner, failed};

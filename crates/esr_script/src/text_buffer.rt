@@ -111,7 +111,7 @@ fn place_wrote(buffer: &mut [u8], at: usize, line: &[u8]) -> usize
     place_byte(buffer, end, b'\n')
 }
 
-/// Places a blank, the last word of a reply, and the end of its line. Returns the index after it.
+/// Places a space, the last word of a reply, and the end of its line. Returns the index after it.
 #[inline(always)]
 fn place_last(buffer: &mut [u8], at: usize, word: &[u8]) -> usize
     requires { at + length word.now + 2 ≤ length buffer.old }

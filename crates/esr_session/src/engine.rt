@@ -1,8 +1,8 @@
 //! An engine: a machine protected by a lock, opened for its sessions and closed with them.
 //!
 //! The type of the locked data admits open and closed engines, but a close must not find a closed one. So the engine
-//! holds a share of a separate ledger, 1,000,001 while it is open: the total of an open engine exceeds any total of a
-//! closed one, so the share proves which it is. The ledger exists in contracts only and costs nothing.
+//! holds a share of the ghost counter (`Ledger`), 1,000,001 while it is open: the total of an open engine exceeds any
+//! total of a closed one, so the share proves which it is. The counter costs nothing at run time.
 //!
 //! A close counts the receipts before it compares them: if there are too few, it is refused without an allocation.
 //! Receipts are compared in place; none is copied.

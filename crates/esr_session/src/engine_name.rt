@@ -1,5 +1,5 @@
 //! Names an engine in contracts: a type parameter whose members are the opening values, the numbers of the metric and a
-//! ledger.
+//! `Ledger`.
 //!
 //! So the type system rejects a session of another engine, and no precondition is needed.
 ghost use Rattle.std.specs.Prelude.{◌≡◌, ℕ, ℤ, List, []};

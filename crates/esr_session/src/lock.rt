@@ -1,8 +1,8 @@
 //! Defines the data that an engine's lock protects, and one call inside the lock.
 //!
-//! The invariant of `Locked` is all that threads rely on: the machine's opening values and metric are the engine's, and
-//! the total of all shares is the number of its entries. A call steps the machine once and adds one receipt and one to
-//! its share, under a single acquisition of the lock. The errors have this order of precedence: closed, full, out of
+//! Threads rely only on the invariant of `Locked`: the machine's opening values and metric are the engine's, and the
+//! total of all shares is the number of entries, plus `SEAL` while it is open. A call steps the machine once and adds one
+//! receipt and one to its share, under one acquisition of the lock. Errors in order of precedence: closed, full, out of
 //! memory. All memory is allocated before the machine steps, first for the receipt, then for the machine.
 ghost use Rattle.std.specs.Prelude.{◌≡◌, ◌+◌, ◌↔◌, [], ◌∷◌, ◌++◌, length, Some, None, IfOk, OnOk, OnErr, IsErrOf, IsSomeAnd, ◌≤◌, Option, MatchOption, List};
 ghost use Rattle.esr_history.specs.Machine.{IsLegal, reply_to, extended, Schedule};

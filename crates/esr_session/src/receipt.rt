@@ -1,4 +1,4 @@
-//! Receipts of answered calls, and why receipts do not match a history.
+//! Receipts of executed calls, and reasons why they mismatch a history.
 ghost use Rattle.std.specs.Prelude.{◌≡◌};
 ghost use Rattle.esr_session.specs.Receipts.{is_block, is_blocked};
 

@@ -22,7 +22,7 @@ pub trait EventSource {
     ghost use Rattle.esr_history.specs.declared.event.Event.{Event};
     ghost use Rattle.esr_session.specs.declared.receipt.Receipt.{Receipt};
 
-    /// Whether an asker that has heard these receipts is now this one.
+    /// Whether a source that has received these receipts is now this one.
     ghost Became: { Self → List Receipt → Self → Type 0 };
 
     /// The next event.

@@ -1,10 +1,10 @@
-//! What the searches know of the updates (`search`).
+//! Labels of the updates, kept between searches (`search`).
 use std::alloc::{AllocError, Global};
 
 /// The bound of an update from which no search can succeed.
 pub const DEAD: u16 = u16::MAX;
 
-/// What the searches know of an update. These four bytes are all that an update takes that the current search has not reached.
+/// The label of an update. An update that the current search has not reached takes only these four bytes.
 #[derive(Clone, Copy)]
 struct Label {
     /// The number of the last search that reached it, or 0.

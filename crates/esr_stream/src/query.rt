@@ -1,4 +1,4 @@
-//! A committed query that is audited, with what its audit reads.
+//! A committed query, with the data that its audit reads.
 ghost use Rattle.std.specs.Prelude.{◌≡◌, ◌<◌, ◌+◌, ◌*◌, ℕ, Bool, All, IfOk, IfSome, length, map};
 ghost use Rattle.esr_items.specs.Values.{IsValue, value_at};
 ghost use Rattle.esr_history.specs.Machine.{IsLegal};
@@ -17,7 +17,7 @@ use esr_order::{Access, Index, count_must, is_committed_query, updates_before};
 use std::alloc::{AllocError, Global};
 use std::marker::Model;
 
-/// A committed query of a history, with what its audit reads.
+/// A committed query of a history, with its audit's data.
 #[derive(Drop)]
 pub struct AuditedQuery<'a, M: Metric> {
     history: &'a History<M>,
@@ -50,7 +50,7 @@ impl<'a, M: Metric> Model for AuditedQuery<'a, M> {
 }
 
 impl<'a, M: Metric> AuditedQuery<'a, M> {
-    /// Returns a query with what its audit reads, or `None` if the transaction is not a committed query.
+    /// Returns a query with its audit's data, or `None` if the transaction is not a committed query.
     ///
     /// # Errors
     ///

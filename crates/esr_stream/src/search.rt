@@ -65,7 +65,7 @@ struct Routed {
 pub struct SearchState {
     /// How many more accesses the searches may visit.
     visits_left: u64,
-    /// What the searches know of the updates.
+    /// The labels of the updates.
     labels: Labels,
     /// The updates that the current search has reached.
     frontier: Frontier,
