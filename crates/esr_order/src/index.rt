@@ -8,6 +8,7 @@
 use crate::accesses::Access;
 use crate::rows::AccessRows;
 use crate::scan::push_committer;
+use crate::versions::VersionLinks;
 use esr_history::{History, TxnId};
 use esr_items::Metric;
 use std::alloc::{AllocError, Global};
@@ -20,6 +21,7 @@ pub struct Index {
     read: usize,
     commits: Vec<TxnId>,
     rows: AccessRows,
+    versions: VersionLinks,
 }
 
 impl Model for Index {
@@ -43,6 +45,7 @@ impl Index {
             read: 0,
             commits: Vec::new(alloc),
             rows: AccessRows::new(alloc),
+            versions: VersionLinks::new(alloc),
         }
     }
 
@@ -54,6 +57,7 @@ impl Index {
             read: 0,
             commits: Vec::new(alloc),
             rows: AccessRows::with_capacity_for(alloc, history.log().len())?,
+            versions: VersionLinks::with_capacity(alloc, history.log().len())?,
         };
         index.extend(history)?;
         Ok(index)
@@ -75,7 +79,9 @@ impl Index {
             push_committer(&mut self.commits, entry)?;
             self.read += 1;
         }
-        self.rows.extend(history, &self.commits[first..])
+        self.rows.extend(history, &self.commits[first..])?;
+        self.versions
+            .add_updates(history, &self.rows, &self.commits[first..])
     }
 
     /// Returns the committed transactions in commit order.
@@ -102,6 +108,16 @@ impl Index {
         ensures { IfOk result (λ accesses. accesses.now ≡ accesses_in history.now.schedule.entries t.0) }
     {
         self.rows.accesses_of(history, t, list)
+    }
+
+    /// Returns the links between the versions that the committed updates wrote. No contract constrains them.
+    pub fn versions(&self) -> &VersionLinks {
+        &self.versions
+    }
+
+    /// Returns the accesses to which the links belong. No contract constrains them.
+    pub fn linked_accesses(&self) -> &[Access] {
+        self.rows.all()
     }
 
     /// Returns the accesses of the committed updates.

@@ -18,6 +18,7 @@ mod read_values;
 mod rows;
 mod scan;
 mod search;
+mod versions;
 
 pub use accesses::{Access, accesses_of};
 pub use index::Index;
@@ -28,3 +29,4 @@ pub use links::Links;
 pub use order::{Order, OrderError};
 pub use read_values::{distance_to, empty_lists};
 pub use scan::{committed, count_must, is_committed_query, outcome_of, updates_before};
+pub use versions::{NO_VERSION, NOBODY, VersionLink, VersionLinks};

@@ -71,8 +71,13 @@ impl AccessRows {
         })
     }
 
+    /// Returns the accesses of all rows, in the order in which the updates committed. No contract constrains them.
+    pub fn all(&self) -> &[Access] {
+        &self.accesses
+    }
+
     /// Returns the row of a transaction, or an empty one if there is none.
-    fn row(&self, t: TxnId) -> &[Access]
+    pub(crate) fn row(&self, t: TxnId) -> &[Access]
         ensures { result.now ≡ row_at self.now t.0 }
     {
         match self.spans.get(t.0 as usize) {

@@ -7,7 +7,7 @@
 --
 -- These are the state of each item along a pass, the effect of one update on it, the invariant of a pass, and its result. In
 -- all of them value v of item x costs C x v, and there are n items.
-use Rattle.std.specs.Prelude.{pos, ◌≡◌, ◌≤◌, ◌<◌, ◌+◌, ◌&&◌, ◌||◌, ◌⊎◌, ◌==◌, ℕ, ℤ, Bool, true, false, nat_lt, List, [], length, filter, map, sum_by, slice_index_or}
+use Rattle.std.specs.Prelude.{pos, ◌≡◌, ◌≤◌, ◌<◌, ◌+◌, ◌%◌, ◌^◌, ◌&&◌, ◌||◌, ◌⊎◌, ◌==◌, ℕ, ℤ, Bool, true, false, nat_lt, List, [], length, filter, map, sum_by, slice_index_or}
 use Rattle.esr_items.specs.Values.{value_at}
 use Rattle.esr_history.specs.Events.{last_value}
 use Rattle.esr_history.specs.Machine.{DistanceFunction, Schedule}
@@ -19,7 +19,7 @@ use Rattle.esr_bound.specs.Amounts.{Amount, left_by_all, mark_at, among_marked, 
 use Rattle.esr_order.specs.declared.accesses.Access.{Access}
 pub use Rattle.esr_stream.specs.declared.items.ItemState.{ItemState}
 use Rattle.esr_stream.specs.declared.rounds.MarkedPrefix.{MarkedPrefix}
-use Rattle.esr_stream.specs.declared.amounts.Version.{Version}
+use Rattle.esr_stream.specs.declared.amounts.ProposedAmount.{ProposedAmount}
 use Rattle.esr_stream.specs.declared.reads.TheConstants.{OFFSET}
 
 abbrev pub no_state : ItemState
@@ -66,8 +66,8 @@ abbrev pub costs_sum : List ItemState → ℕ
 costs_sum states = sum_by (λ i. i.cost) states
 
 -- the amount that is proposed for the read at position j of an update: the offset and the raise, or the offset less the loan
-abbrev pub read_amount : List Version → ℕ → ℕ
-read_amount versions j = (slice_index_or versions j (record { amount = OFFSET; link = 0; overwritten_writer = 0; overwriter = 0 })).amount
+abbrev pub read_amount : List ProposedAmount → ℕ → ℕ
+read_amount amounts j = (slice_index_or amounts j (record { bits = OFFSET })).bits % (2 ^ 62)
 
 -- The state if each update so far is marked. An item is covered if each writer of it that the pass has visited is marked, or a
 -- writer visited after that one is. It is owed if a marked update has a loan from its current version.

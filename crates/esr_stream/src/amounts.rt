@@ -1,13 +1,13 @@
 //! Proposes an amount for each version. No contract constrains the amounts: the pass (`pass`) checks them.
 //!
 //! The *cost* of a version is the distance of the query's reads of the item from it. Its *amount* is the proposed flow on its
-//! arc, which leads from the update that writes it to the one that overwrites it. First, the versions are listed in commit
-//! order, each with the cost of the version that it overwrites. Then the *sweep* visits the updates from the last to the first.
-//! The last version of each item gets its cost as its amount. For each update, the sum of the amounts of the versions that it
-//! writes is distributed over the versions that it overwrites, in proportion to their costs. If these costs add up to less than
-//! that sum, the update has an *excess*, and searches (`search`) look for earlier versions that can take it. The sweep goes over the
-//! versions of an update a second time only to distribute less than the costs. Rejected: parts of the sum of the costs so far, which
-//! leave no rest: they take 1 per cent more instructions in the load `many` of `bench/audit` than to distribute a rest.
+//! arc, which leads from the update that writes it to the one that overwrites it. First, the amount of each version is its cost,
+//! in commit order. Then the *sweep* visits the updates from the last to the first. A version that no update overwrites keeps its
+//! cost as its amount. For each update, the sum of the amounts of the versions that it writes is distributed over the versions
+//! that it overwrites, in proportion to their costs. If these costs add up to less than that sum, the update has an *excess*, and
+//! searches (`search`) look for earlier versions that can take it. The sweep goes over the versions of an update a second time only
+//! to distribute less than the costs. Rejected: parts of the sum of the costs so far, which leave no rest: they take 1 per cent
+//! more instructions in the load `many` of `bench/audit` than to distribute a rest.
 //!
 //! The search works in the flow network with all arcs reversed. It goes from an update to the writer of a version that the
 //! update overwrites, if this version has residual capacity (its amount is less than its cost). It also goes from an update to
@@ -17,130 +17,115 @@
 //! back where there is flow. So at each update strictly between the ends, the difference between the amounts of the versions
 //! that it writes and of those that it overwrites stays the same. `MAX_VISITS_PER_UPDATE` bounds the work of all searches.
 //!
-//! A version takes 16 bytes. Until the sweep has passed it, the field `amount` holds the cost of the version that it overwrites;
-//! afterwards, its own amount. So a search computes the costs on its path again. All stored costs and amounts include the
-//! offset. A version also records the writer of the version that it overwrites, whether that version has residual capacity, and
-//! whether a read of it has had a loan. So listing a version does not access the version that it overwrites, and a search reads
-//! only the versions of the updates that it visits, which are adjacent. Rejected: separate lists of costs, amounts, writers and
-//! links, which take 28 bytes, and are filled one after another.
-ghost use Rattle.std.specs.Prelude.{◌<◌, All, length};
+//! An audit stores 8 bytes for each access: its amount, with two bits that say whether the version that it overwrites has residual
+//! capacity, and whether a read of that version has had a loan. All stored costs and amounts include the offset. Which version
+//! overwrites which does not depend on the query, so the index keeps these links (`esr_order`), in the order of the amounts. A
+//! search reads only the links and amounts of the updates that it visits, which are adjacent, and computes the costs on its path
+//! again. Rejected: versions of 16 bytes that each audit lists with their links, which take 1.3 times the instructions in the last
+//! audits of the load `many`. Also rejected: a sweep that computes the costs of the versions that an update overwrites. Their values
+//! are far apart in memory, which takes 1.3 times the time of costs in commit order.
+ghost use Rattle.std.specs.Prelude.{◌≡◌, ◌<◌, ◌%◌, ◌^◌, All, length};
 ghost use Rattle.esr_items.specs.Values.{IsValue};
 
 use crate::query::AuditedQuery;
 use crate::reads::OFFSET;
 use crate::update_reads::UpdateReads;
 use esr_items::{ItemId, Metric};
-use esr_order::Access;
+use esr_order::{Access, NOBODY, VersionLink};
 use std::alloc::{AllocError, Global};
 
-/// The id of no version. An id is an index in `ProposedAmounts::versions` and takes 30 bits.
-pub const NONE: u32 = u32::MAX >> 2;
+/// The id of no version. An id is an index in `ProposedAmounts::amounts`.
+pub const NONE: u32 = u32::MAX;
 
-/// The position in commit order of no update.
-pub const NOBODY: u16 = u16::MAX;
+/// The bit of an amount that says that the version that its own version overwrites has residual capacity.
+const RESIDUAL: u64 = 1 << 62;
 
-/// A version of an item. A read has one too, and so has a write that the same update overwrites later; these are never used.
+/// The bit of an amount that says that a read of the version that its own version overwrites has had a loan.
+const LOAN: u64 = 1 << 63;
+
+/// The amount of a version, with two facts on the version that it overwrites.
 #[derive(Clone, Copy)]
-pub struct Version {
-    /// Its amount. Before the sweep has passed it: the cost of the version that it overwrites.
-    pub amount: u64,
-    /// Four times the id of the version that it overwrites (`NONE` for an opening value and for an unused version), plus 2 if a
-    /// read of that version has ever had a loan, plus 1 if the sweep has passed it and the amount of that version is less than the
-    /// cost.
-    link: u32,
-    /// The position in commit order of the update that wrote the version that it overwrites; `NOBODY` for an opening value.
-    pub overwritten_writer: u16,
-    /// The position in commit order of the update that overwrites it, once the sweep has passed it; `NOBODY` if none does.
-    pub overwriter: u16,
+pub struct ProposedAmount {
+    /// The amount, plus `RESIDUAL` if the sweep has passed the version and the amount of the version that it overwrites is less than
+    /// the cost, plus `LOAN`.
+    bits: u64,
 }
 
-/// An unused version, without an amount.
-const UNUSED: Version = Version {
-    amount: 0,
-    link: NONE << 2,
-    overwritten_writer: NOBODY,
-    overwriter: NOBODY,
-};
+/// The amount zero.
+pub const ZERO: ProposedAmount = ProposedAmount { bits: OFFSET };
 
-impl Version {
-    /// Returns the id of the version that it overwrites, or `NONE`.
-    pub fn overwritten(self) -> u32 {
-        self.link >> 2
+impl ProposedAmount {
+    /// Returns the amount.
+    pub fn value(self) -> u64
+        ensures { result ≡ self.bits % (2 ^ 62) }
+    {
+        self.bits % RESIDUAL
     }
 
-    /// Returns whether the sweep has passed it and the version that it overwrites has residual capacity: its amount is less than
-    /// its cost.
+    /// Returns whether the sweep has passed its version and the version that this one overwrites has residual capacity.
     pub fn can_increase_overwritten(self) -> bool {
-        self.link & 1 == 1
+        self.bits & RESIDUAL != 0
     }
 
-    /// Returns whether a read of the version that it overwrites may have a loan.
+    /// Returns whether a read of the version that its version overwrites may have a loan.
     pub fn may_repay(self) -> bool {
-        self.link & 2 == 2
+        self.bits & LOAN != 0
     }
 
-    /// Returns the version with another amount.
-    fn with_amount(self, amount: u64) -> Version {
-        Version { amount, ..self }
-    }
-
-    /// Returns the version with the fact whether the version that it overwrites has residual capacity.
-    fn with_residual(self, has_residual: bool) -> Version {
-        let residual = if has_residual { 1 } else { 0 };
-        Version {
-            link: (self.link >> 1 << 1) | residual,
-            ..self
+    /// Returns another amount with the same facts.
+    fn with_value(self, amount: u64) -> ProposedAmount {
+        ProposedAmount {
+            bits: (self.bits & (RESIDUAL | LOAN)) | (amount % RESIDUAL),
         }
     }
 
-    /// Returns the version with the fact that a read of the version that it overwrites has had a loan.
-    fn with_loan(self) -> Version {
-        Version {
-            link: self.link | 2,
-            ..self
+    /// Returns the amount with the fact whether the version that its version overwrites has residual capacity.
+    fn with_residual(self, has_residual: bool) -> ProposedAmount {
+        let others = self.bits & !RESIDUAL;
+        ProposedAmount {
+            bits: if has_residual {
+                others | RESIDUAL
+            } else {
+                others
+            },
         }
     }
 
-    /// Returns whether the version that it overwrites has residual capacity, and the sweep, which is at the update `source` and has
-    /// passed this version, has not passed that one.
-    fn overwrites_target_at(self, source: u16) -> bool {
-        self.can_increase_overwritten()
-            && (self.overwritten_writer == NOBODY || self.overwritten_writer < source)
+    /// Returns the amount with the fact that a read of the version that its version overwrites has had a loan.
+    fn with_loan(self) -> ProposedAmount {
+        ProposedAmount {
+            bits: self.bits | LOAN,
+        }
     }
 }
 
-/// Returns the link of a version that overwrites another one, and has no residual capacity yet.
-fn link_to(overwritten: u32) -> u32 {
-    overwritten.min(NONE) << 2
-}
-
-/// The current version of an item: while the versions are listed, the last one; during the sweep, the one that is current at
-/// the position of the sweep.
-#[derive(Clone, Copy)]
-struct CurrentVersion {
-    /// Its cost, plus the offset.
-    cost: u64,
-    amount: u64,
-    id: u32,
-    /// During the sweep, the id of the version that overwrites it; `NONE` if none does.
-    overwriting: u32,
-    /// The position in commit order of its writer while the versions are listed, and of its overwriter during the sweep; `NOBODY`
-    /// if there is none.
-    neighbor: u16,
-}
-
-/// The versions of the items: the opening values by item, then one version for each access, in order.
+/// The amounts of the versions.
 #[derive(Drop)]
-pub struct ProposedAmounts {
-    pub versions: Vec<Version>,
-    /// The id of the first version of each update, and the end of the last update's ids.
-    starts: Vec<u32>,
-    /// The current version of each item.
-    current: Vec<CurrentVersion>,
-    /// The number of reads of the updates.
+pub struct ProposedAmounts<'a> {
+    /// Those of the opening values, from the last item to the first, and then those of the accesses, in order.
+    pub amounts: Vec<ProposedAmount>,
+    /// The number of items.
+    items: u32,
+    /// The links of the accesses of all committed updates.
+    links: &'a [VersionLink],
+    /// The index of the first access of each committed update.
+    starts: &'a [u32],
+    /// The accesses of all committed updates.
+    accesses: &'a [Access],
+    /// The number of reads of all committed updates.
     read_count: usize,
     /// The reads of the updates, none before `list_reads`.
     pub reads: UpdateReads,
+}
+
+/// The accesses of one update.
+#[derive(Clone, Copy)]
+pub struct OwnVersions<'a> {
+    /// The id of the version of the first access.
+    pub first: u32,
+    pub links: &'a [VersionLink],
+    /// Begins with the amounts of these accesses.
+    pub amounts: &'a [ProposedAmount],
 }
 
 /// Sums over the versions of one update. Each sum includes the offset once for each version.
@@ -164,12 +149,14 @@ pub fn to_u16_or_nobody(i: usize) -> u16 {
     u16::try_from(i).unwrap_or(NOBODY)
 }
 
-/// Returns the elements of an update in a list, given the index of the first element of each update and the end of the last
-/// update's elements.
+/// Returns the elements of an update in a list, given the index of the first element of each update. The elements of the last
+/// update reach to the end of the list.
 pub fn elements_of<'a, T>(list: &'a [T], starts: &[u32], update: u16) -> &'a [T] {
     let next = (update as usize).saturating_add(1);
-    let first = starts.get(update as usize).copied().unwrap_or(NONE) as usize;
-    let end = starts.get(next).copied().unwrap_or(NONE) as usize;
+    let first = starts
+        .get(update as usize)
+        .map_or(list.len(), |start| *start as usize);
+    let end = starts.get(next).map_or(list.len(), |start| *start as usize);
     if first <= end && end <= list.len() {
         &list[first..end]
     } else {
@@ -177,181 +164,95 @@ pub fn elements_of<'a, T>(list: &'a [T], starts: &[u32], update: u16) -> &'a [T]
     }
 }
 
-impl ProposedAmounts {
-    /// Returns the versions before all updates, with capacity for those of the updates.
-    pub fn opening<M: Metric>(
+impl<'a> ProposedAmounts<'a> {
+    /// Returns the amounts before the sweep: the cost of each version.
+    ///
+    /// # Errors
+    ///
+    /// An allocation failed.
+    pub fn of<M: Metric>(
         alloc: Global,
-        query: &AuditedQuery<M>,
-    ) -> Result<ProposedAmounts, AllocError> {
-        let items = query.items() as usize;
-        let capacity = query.history().log().len().saturating_add(items);
-        let mut amounts = ProposedAmounts {
-            versions: Vec::with_capacity(alloc, capacity)?,
-            starts: Vec::with_capacity(alloc, query.update_count().saturating_add(1))?,
-            current: Vec::with_capacity(alloc, items)?,
-            read_count: 0,
+        query: &AuditedQuery<'a, M>,
+    ) -> Result<ProposedAmounts<'a>, AllocError> {
+        let versions = query.versions();
+        let updates = query.update_count();
+        let links = versions.links();
+        let count = versions
+            .starts()
+            .get(updates)
+            .map_or(links.len(), |start| *start as usize);
+        Ok(ProposedAmounts {
+            amounts: costs_of(alloc, query, count)?,
+            items: query.items(),
+            links,
+            starts: versions.starts(),
+            accesses: query.linked_accesses(),
+            read_count: versions.read_count(),
             reads: UpdateReads::new(alloc),
-        };
-        for x in 0..query.items() {
-            let cost = query.opening_cost(ItemId(x));
-            amounts.push_version(NONE, NOBODY, 0)?;
-            amounts.current.push(CurrentVersion {
-                cost,
-                amount: 0,
-                id: x,
-                overwriting: NONE,
-                neighbor: NOBODY,
-            })?;
-        }
-        Ok(amounts)
+        })
     }
 
-    /// Appends a version. The arguments are the id, the writer and the cost of the version that it overwrites.
-    fn push_version(
-        &mut self,
-        overwritten: u32,
-        overwritten_writer: u16,
-        cost: u64,
-    ) -> Result<(), AllocError> {
-        self.versions.push(Version {
-            amount: cost,
-            link: link_to(overwritten),
-            overwritten_writer,
-            overwriter: NOBODY,
-        })?;
-        Ok(())
-    }
-
-    /// Returns the versions from an update on.
-    pub fn versions_from(&self, update: usize) -> &[Version] {
-        let first = self.starts.get(update).copied().unwrap_or(NONE) as usize;
-        if first <= self.versions.len() {
-            &self.versions[first..]
+    /// Returns the amounts of the accesses from an update on.
+    pub fn amounts_from(&self, update: u16) -> &[ProposedAmount] {
+        let first = self.first_version(update) as usize;
+        if first <= self.amounts.len() {
+            &self.amounts[first..]
         } else {
             &[]
         }
     }
 
-    /// Returns the versions of an update.
-    pub fn versions_of(&self, update: u16) -> &[Version] {
-        elements_of(&self.versions, &self.starts, update)
+    /// Returns the links of the accesses of an update.
+    pub fn links_of(&self, update: u16) -> &'a [VersionLink] {
+        elements_of(self.links, self.starts, update)
+    }
+
+    /// Returns the accesses of an update.
+    pub fn versions_of(&self, update: u16) -> OwnVersions<'_> {
+        OwnVersions {
+            first: self.first_version(update),
+            links: self.links_of(update),
+            amounts: self.amounts_from(update),
+        }
     }
 
     /// Returns the id of the first version of an update.
-    pub fn first_version(&self, update: u16) -> u32 {
-        self.starts.get(update as usize).copied().unwrap_or(NONE)
+    fn first_version(&self, update: u16) -> u32 {
+        self.starts
+            .get(update as usize)
+            .map_or(NONE, |start| start.saturating_add(self.items))
     }
 
-    /// Returns the version with an id.
-    pub fn version(&self, id: u32) -> Version {
-        self.versions.get(id as usize).copied().unwrap_or(UNUSED)
-    }
-
-    /// Returns the current version of an item.
-    fn current_version(&self, x: ItemId) -> CurrentVersion {
-        let missing = CurrentVersion {
-            cost: 0,
-            amount: 0,
-            id: NONE,
-            overwriting: NONE,
-            neighbor: NOBODY,
-        };
-        self.current.get(x.0 as usize).copied().unwrap_or(missing)
-    }
-
-    fn set_version(&mut self, id: u32, version: Version) {
-        let id = id as usize;
-        if id < self.versions.len() {
-            self.versions[id] = version;
+    /// Returns the id of the version that a version overwrites, or the id of no version.
+    pub fn overwritten(&self, id: u32) -> u32 {
+        match id.checked_sub(self.items) {
+            None => NONE,
+            Some(i) => self
+                .links
+                .get(i as usize)
+                .map_or(NONE, |link| overwritten_id(*link, self.items)),
         }
     }
 
-    fn set_current(&mut self, x: ItemId, current: CurrentVersion) {
-        let x = x.0 as usize;
-        if x < self.current.len() {
-            self.current[x] = current;
+    /// Returns the amount of the version with an id.
+    pub fn amount(&self, id: u32) -> ProposedAmount {
+        self.amounts.get(id as usize).copied().unwrap_or(ZERO)
+    }
+
+    /// Sets the amount of a version.
+    fn set_amount(&mut self, id: u32, amount: u64) {
+        let i = id as usize;
+        if i < self.amounts.len() {
+            self.amounts[i] = self.amounts[i].with_value(amount);
         }
     }
 
-    /// Appends a write. `id` and `cost` are those of the new version, and `first_version` is the id of the update's first one.
-    fn push_write(
-        &mut self,
-        x: ItemId,
-        cost: u64,
-        update: u16,
-        first_version: u32,
-        id: u32,
-    ) -> Result<(), AllocError> {
-        let x = x.0 as usize;
-        if self.current.len() <= x {
-            return self.push_version(NONE, NOBODY, 0);
+    /// Sets whether the version that a version overwrites has residual capacity.
+    fn set_residual(&mut self, id: u32, has_residual: bool) {
+        let i = id as usize;
+        if i < self.amounts.len() {
+            self.amounts[i] = self.amounts[i].with_residual(has_residual);
         }
-        let current = self.current[x];
-        self.current[x] = CurrentVersion {
-            cost,
-            amount: 0,
-            id,
-            overwriting: NONE,
-            neighbor: update,
-        };
-        if current.id < first_version {
-            return self.push_version(current.id, current.neighbor, current.cost);
-        }
-        // the same update has written the item before; that write no longer counts
-        let before = self.version(current.id);
-        self.set_version(current.id, UNUSED);
-        self.push_version(
-            before.overwritten(),
-            before.overwritten_writer,
-            before.amount,
-        )
-    }
-
-    /// Appends a read.
-    fn push_read(&mut self) -> Result<(), AllocError> {
-        self.read_count = self.read_count.saturating_add(1);
-        self.push_version(NONE, NOBODY, OFFSET)
-    }
-
-    /// Appends the accesses of an update.
-    pub fn push_update<M: Metric>(
-        &mut self,
-        query: &AuditedQuery<M>,
-        accesses: &[Access],
-        update: u16,
-    ) -> Result<(), AllocError>
-        requires items_in_range { All (λ a. a.item.0 < length query.now.schedule.opening) accesses.now }
-        requires values_in_range { All (λ a. IsValue a.value) accesses.now }
-    {
-        let first_version = to_u32_or_max(self.versions.len());
-        self.starts.push(first_version)?;
-        let mut id = first_version;
-        for access in accesses {
-            if access.writes {
-                let cost = query.cost(access.item, access.value);
-                self.push_write(access.item, cost, update, first_version, id)?;
-            } else {
-                self.push_read()?;
-            }
-            id = id.saturating_add(1);
-        }
-        Ok(())
-    }
-
-    /// Ends the list of versions, and sets the amount of the last version of each item to its cost.
-    pub fn init_amounts(&mut self) -> Result<(), AllocError> {
-        let end = to_u32_or_max(self.versions.len());
-        self.starts.push(end)?;
-        for x in 0..self.current.len() {
-            let current = self.current[x];
-            self.current[x] = CurrentVersion {
-                amount: current.cost,
-                overwriting: NONE,
-                neighbor: NOBODY,
-                ..current
-            };
-        }
-        Ok(())
     }
 
     /// Lists the reads of the updates, if there are any and they are not listed yet. Only searches need them.
@@ -361,27 +262,17 @@ impl ProposedAmounts {
         query: &AuditedQuery<M>,
         buffer: &mut Vec<Access>,
     ) -> Result<(), AllocError> {
-        if 0 < self.read_count && self.reads.is_empty() {
-            let versions = self.versions.len();
+        if 0 < self.read_count && !self.reads.is_listed() {
             self.reads = UpdateReads::of(
                 alloc,
                 query,
-                &self.starts,
-                versions,
+                self.starts,
+                self.amounts.len(),
                 self.read_count,
                 buffer,
             )?;
         }
         Ok(())
-    }
-
-    /// Stores the amounts of the versions that are current at the end of the sweep.
-    pub fn store_current(&mut self) {
-        for x in 0..to_u32_or_max(self.current.len()) {
-            let current = self.current_version(ItemId(x));
-            let version = self.version(current.id);
-            self.set_version(current.id, version.with_amount(current.amount));
-        }
     }
 
     /// Stores the amounts of the reads that have a raise or a loan, and lowers the amounts of the versions by the raises, since each
@@ -395,72 +286,79 @@ impl ProposedAmounts {
                 continue;
             }
             let amount = OFFSET.saturating_add(read.raise).saturating_sub(read.loan);
-            let own = self.version(read.id);
-            self.set_version(read.id, own.with_amount(amount));
-            let version = self.version(read.version);
-            let lowered = version.amount.saturating_sub(read.raise);
-            self.set_version(read.version, version.with_amount(lowered));
+            self.set_amount(read.id, amount);
+            let lowered = self.amount(read.version).value().saturating_sub(read.raise);
+            self.set_amount(read.version, lowered);
         }
     }
 
-    /// Returns whether an update that the sweep has passed overwrites a target: a version that has residual capacity and that the
-    /// sweep, which is at the update `source`, has not passed.
+    /// Returns whether an update that the sweep has passed overwrites a target. The sweep is at the update `source`.
     pub fn overwrites_target(&self, update: u16, source: u16) -> bool {
-        self.versions_of(update)
-            .iter()
-            .any(|version| version.overwrites_target_at(source))
+        let first = self.first_version(update) as usize;
+        let end = self.first_version(update.saturating_add(1)) as usize;
+        for id in first..end.min(self.amounts.len()) {
+            if self.amounts[id].can_increase_overwritten() && self.is_over_target(id, source) {
+                return true;
+            }
+        }
+        false
     }
 
-    /// Increases the amounts of the targets that an update with these accesses overwrites, by at most `most` in all. The sweep is at
-    /// the update `source`. Returns by how much.
-    pub fn fill_targets(
+    /// Returns whether the version that a version overwrites is one that the sweep, which is at the update `source`, has not passed.
+    fn is_over_target(&self, id: usize, source: u16) -> bool {
+        match self.links.get(id.saturating_sub(self.items as usize)) {
+            Some(link) => is_before(link.overwritten_writer, source),
+            None => false,
+        }
+    }
+
+    /// Increases the amounts of the targets that an update overwrites, by at most `most` in all. The sweep is at the update `source`.
+    /// Returns by how much.
+    pub fn fill_targets<M: Metric>(
         &mut self,
-        accesses: &[Access],
+        query: &AuditedQuery<M>,
         update: u16,
         source: u16,
         most: u64,
     ) -> u64 {
-        let mut left = most;
+        let links = self.links_of(update);
         let mut id = self.first_version(update);
-        for access in accesses {
+        let mut left = most;
+        for link in links {
             if left == 0 {
                 return most;
             }
-            if self.version(id).overwrites_target_at(source) {
-                let part = self.residual(access.item).min(left);
-                self.add_to_current(access.item, part);
-                left = left.saturating_sub(part);
+            if self.amount(id).can_increase_overwritten()
+                && is_before(link.overwritten_writer, source)
+            {
+                left = left.saturating_sub(self.fill_overwritten(query, id, left));
             }
             id = id.saturating_add(1);
         }
         most.saturating_sub(left)
     }
 
-    /// Returns the residual capacity of the current version of an item.
-    fn residual(&self, x: ItemId) -> u64 {
-        let current = self.current_version(x);
-        current.cost.saturating_sub(current.amount)
+    /// Increases the amount of the version that a version overwrites, by at most `most` and at most to its cost. Returns by how much.
+    fn fill_overwritten<M: Metric>(&mut self, query: &AuditedQuery<M>, id: u32, most: u64) -> u64 {
+        let residual = self.overwritten_residual(query, id);
+        let part = residual.min(most);
+        self.increase_overwritten(id, part, part < residual);
+        part
     }
 
-    /// Adds to the amount of the current version of an item.
-    fn add_to_current(&mut self, x: ItemId, more: u64) {
-        let current = self.current_version(x);
-        let amount = current.amount.saturating_add(more);
-        self.set_current(x, CurrentVersion { amount, ..current });
-        self.set_residual(current.overwriting, amount < current.cost);
-    }
-
-    /// Sets whether the version that a version overwrites has residual capacity.
-    fn set_residual(&mut self, id: u32, has_residual: bool) {
-        let version = self.version(id);
-        self.set_version(id, version.with_residual(has_residual));
+    /// Returns the residual capacity of the version that a version overwrites.
+    pub fn overwritten_residual<M: Metric>(&self, query: &AuditedQuery<M>, id: u32) -> u64 {
+        let overwritten = self.overwritten(id);
+        let amount = self.amount(overwritten).value();
+        cost_of(query, self.accesses, overwritten).saturating_sub(amount)
     }
 
     /// Returns the id of the version by which an update overwrites a version, or `NONE`.
     fn overwriting(&self, id: u32, update: u16) -> u32 {
+        let links = self.links_of(update);
         let mut found = self.first_version(update);
-        for version in self.versions_of(update) {
-            if version.overwritten() == id {
+        for link in links {
+            if overwritten_id(*link, self.items) == id {
                 return found;
             }
             found = found.saturating_add(1);
@@ -470,19 +368,16 @@ impl ProposedAmounts {
 
     /// Decreases the amount of a version that the sweep has passed, and that an update overwrites.
     pub fn decrease(&mut self, id: u32, less: u64, overwriter: u16) {
-        let version = self.version(id);
-        let amount = version.amount.saturating_sub(less);
-        self.set_version(id, version.with_amount(amount));
+        let amount = self.amount(id).value().saturating_sub(less);
+        self.set_amount(id, amount);
         self.set_residual(self.overwriting(id, overwriter), true);
     }
 
-    /// Increases the amount of the version that a version overwrites, if the sweep has passed both. `has_residual` says whether it
-    /// can increase further.
+    /// Increases the amount of the version that a version overwrites. `has_residual` says whether it can increase further.
     pub fn increase_overwritten(&mut self, id: u32, more: u64, has_residual: bool) {
-        let overwritten = self.version(id).overwritten();
-        let version = self.version(overwritten);
-        let amount = version.amount.saturating_add(more);
-        self.set_version(overwritten, version.with_amount(amount));
+        let overwritten = self.overwritten(id);
+        let amount = self.amount(overwritten).value().saturating_add(more);
+        self.set_amount(overwritten, amount);
         self.set_residual(id, has_residual);
     }
 
@@ -492,21 +387,21 @@ impl ProposedAmounts {
             return;
         };
         self.reads.add_loan(r, more);
-        let id = self.overwriting(read.version, read.overwriter);
-        let overwriting = self.version(id);
-        self.set_version(id, overwriting.with_loan());
+        let i = self.overwriting(read.version, read.overwriter) as usize;
+        if i < self.amounts.len() {
+            self.amounts[i] = self.amounts[i].with_loan();
+        }
     }
 
     /// Distributes the amounts of the versions that an update writes over those that it overwrites. Returns the excess.
-    pub fn distribute(&mut self, accesses: &[Access], update: u16) -> u64 {
-        let first_version = self.first_version(update);
-        let first = first_version as usize;
-        let end = first.saturating_add(accesses.len());
-        if end < first || self.versions.len() < end {
+    pub fn distribute<M: Metric>(&mut self, query: &AuditedQuery<M>, update: u16) -> u64 {
+        let links = self.links_of(update);
+        let first = self.first_version(update) as usize;
+        if self.amounts.len() < first {
             return 0;
         }
-        let versions = &mut self.versions[first..end];
-        let sums = retreat(versions, &mut self.current, accesses, first_version, update);
+        let (before, own) = self.amounts.split_at_mut(first);
+        let sums = sums_of(links, self.items, before, own);
         if sums.overwritten_costs <= sums.written_amounts {
             return sums.written_amounts.saturating_sub(sums.overwritten_costs);
         }
@@ -514,26 +409,96 @@ impl ProposedAmounts {
         let net_amount = sums.written_amounts.saturating_sub(offsets);
         let ratio = ratio_of(net_amount, sums.overwritten_costs.saturating_sub(offsets));
         let rest = share(
-            versions,
-            &mut self.current,
-            accesses,
-            net_amount,
-            ratio,
-            sums.count,
+            links, self.items, before, own, net_amount, ratio, sums.count,
         );
-        self.fill_targets(accesses, update, update, rest);
+        if 0 < rest {
+            self.fill_targets(query, update, update, rest);
+        }
         0
     }
 }
 
-/// Moves the sweep back past an update: stores the current amounts in the versions that it writes, and makes those that it
-/// overwrites current, with their costs as their amounts. Returns the sums of the update.
-fn retreat(
-    versions: &mut [Version],
-    current: &mut [CurrentVersion],
+/// Returns whether the sweep, which is at the update `source`, has not passed the versions that `writer` wrote; `NOBODY` wrote the
+/// opening values.
+fn is_before(writer: u16, source: u16) -> bool {
+    // one more than `NOBODY` is 0
+    writer.wrapping_add(1) <= source
+}
+
+/// Appends the cost of the version of each access of an update. The cost of a read is zero.
+fn push_costs<M: Metric>(
+    query: &AuditedQuery<M>,
     accesses: &[Access],
-    first_version: u32,
-    update: u16,
+    costs: &mut Vec<ProposedAmount>,
+) -> Result<(), AllocError>
+    requires items_in_range { All (λ a. a.item.0 < length query.now.schedule.opening) accesses.now }
+    requires values_in_range { All (λ a. IsValue a.value) accesses.now }
+{
+    for access in accesses {
+        let bits = if access.writes {
+            query.cost(access.item, access.value)
+        } else {
+            OFFSET
+        };
+        costs.push(ProposedAmount { bits })?;
+    }
+    Ok(())
+}
+
+/// Returns the cost of each version by its id, with capacity for `count` accesses.
+fn costs_of<M: Metric>(
+    alloc: Global,
+    query: &AuditedQuery<M>,
+    count: usize,
+) -> Result<Vec<ProposedAmount>, AllocError> {
+    let count = count.saturating_add(query.items() as usize);
+    // audits with about as many accesses use blocks of the same size, so the heap reuses the pages of the last one
+    let capacity = if count < 1 << 32 {
+        count.next_power_of_two()
+    } else {
+        count
+    };
+    let mut costs = Vec::with_capacity(alloc, capacity)?;
+    for x in (0..query.items()).rev() {
+        let bits = query.opening_cost(ItemId(x));
+        costs.push(ProposedAmount { bits })?;
+    }
+    let mut list = Vec::new(alloc);
+    for i in 0..query.update_count() {
+        let accesses = query.accesses(i, &mut list)?;
+        push_costs(query, accesses, &mut costs)?;
+    }
+    Ok(costs)
+}
+
+/// Returns the id of the version that a version with this link overwrites, or the id of no version.
+fn overwritten_id(link: VersionLink, items: u32) -> u32 {
+    items.wrapping_add(link.overwritten)
+}
+
+/// Returns the id of the opening value of an item, if there are this many items.
+pub fn opening_id(items: u32, x: u32) -> u32 {
+    items.saturating_sub(1).saturating_sub(x)
+}
+
+/// Returns the cost of the version with an id, plus the offset. The accesses are those of all committed updates.
+fn cost_of<M: Metric>(query: &AuditedQuery<M>, accesses: &[Access], id: u32) -> u64 {
+    match id.checked_sub(query.items()) {
+        None => query.opening_cost_or_zero(ItemId(opening_id(query.items(), id))),
+        Some(i) => match accesses.get(i as usize) {
+            Some(access) => query.cost_or_zero(access.item, access.value),
+            None => OFFSET,
+        },
+    }
+}
+
+/// Returns the sums of an update. `own` begins with the amounts of its versions, and `before` has those of the versions before
+/// them, which are their costs if the update overwrites them. No sum here wraps.
+fn sums_of(
+    links: &[VersionLink],
+    items: u32,
+    before: &[ProposedAmount],
+    own: &[ProposedAmount],
 ) -> Sums {
     let mut sums = Sums {
         written_amounts: 0,
@@ -541,52 +506,35 @@ fn retreat(
         count: 0,
     };
     // backward like the sweep, since processors prefetch memory best if it is read in one direction
-    let mut id = first_version.saturating_add(to_u32_or_max(accesses.len()));
-    for j in (0..accesses.len()).rev() {
-        id = id.saturating_sub(1);
-        let x = accesses[j].item.0 as usize;
-        if j < versions.len() && x < current.len() && versions[j].overwritten() != NONE {
-            let version = versions[j];
-            let passed = current[x];
-            let cost = version.amount;
-            versions[j] = Version {
-                amount: passed.amount,
-                overwriter: passed.neighbor,
-                ..version
-            };
-            current[x] = CurrentVersion {
-                cost,
-                amount: cost,
-                id: version.overwritten(),
-                overwriting: id,
-                neighbor: update,
-            };
-            sums.written_amounts = sums.written_amounts.saturating_add(passed.amount);
-            sums.overwritten_costs = sums.overwritten_costs.saturating_add(cost);
-            sums.count = sums.count.saturating_add(1);
+    for j in (0..links.len().min(own.len())).rev() {
+        let i = overwritten_id(links[j], items) as usize;
+        if i < before.len() {
+            sums.written_amounts = sums.written_amounts.wrapping_add(own[j].bits);
+            sums.overwritten_costs = sums.overwritten_costs.wrapping_add(before[i].bits);
+            sums.count = sums.count.wrapping_add(1);
         }
     }
     sums
 }
 
-/// Distributes an amount without offsets over the `count` versions that an update overwrites, in proportion to their costs. The
-/// ratio is a fixed-point number in units of 2^-31. The last version takes what rounding leaves over, at most its cost. Returns the
-/// rest. No difference and no product here wraps.
+/// Distributes an amount without offsets over the `count` versions that an update overwrites, in proportion to their costs, which
+/// are their amounts so far. The ratio is a fixed-point number in units of 2^-31. The last version takes what rounding leaves
+/// over, at most its cost. Returns the rest. No difference and no product here wraps.
 fn share(
-    versions: &mut [Version],
-    current: &mut [CurrentVersion],
-    accesses: &[Access],
+    links: &[VersionLink],
+    items: u32,
+    before: &mut [ProposedAmount],
+    own: &mut [ProposedAmount],
     net_amount: u64,
     ratio: u64,
     count: u64,
 ) -> u64 {
     let mut left = net_amount;
     let mut versions_left = count;
-    for j in 0..accesses.len() {
-        let x = accesses[j].item.0 as usize;
-        if j < versions.len() && x < current.len() && versions[j].overwritten() != NONE {
-            let overwritten = current[x];
-            let cost = overwritten.cost.wrapping_sub(OFFSET);
+    for j in 0..links.len().min(own.len()) {
+        let i = overwritten_id(links[j], items) as usize;
+        if i < before.len() {
+            let cost = before[i].bits.wrapping_sub(OFFSET);
             versions_left = versions_left.wrapping_sub(1);
             let share = if versions_left == 0 {
                 left
@@ -594,11 +542,14 @@ fn share(
                 part_of(cost, ratio)
             };
             let part = share.min(cost).min(left);
-            versions[j] = versions[j].with_residual(part < cost);
-            current[x] = CurrentVersion {
-                amount: part.wrapping_add(OFFSET),
-                ..overwritten
+            before[i] = ProposedAmount {
+                bits: part.wrapping_add(OFFSET),
             };
+            if part < cost {
+                own[j] = ProposedAmount {
+                    bits: own[j].bits | RESIDUAL,
+                };
+            }
             left = left.wrapping_sub(part);
         }
     }

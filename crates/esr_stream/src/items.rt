@@ -6,7 +6,7 @@ ghost use Rattle.esr_order.specs.declared.accesses.Access.{Access as AccessValue
 ghost use Rattle.esr_stream.specs.Passes.{AreStates, HasReadReason, IsReadOf, IsUpdateApplied, ItemState as StateValue, amounts_sum, as_covered, costs_sum, has_slack_at, has_write_reason, is_owed_at, loans_sum, read_amount, unowed_at};
 ghost use Rattle.esr_stream.specs.Query.{cost_in};
 
-use crate::amounts::Version;
+use crate::amounts::{ProposedAmount, ZERO, opening_id};
 use crate::query::AuditedQuery;
 use crate::reads::OFFSET;
 use esr_items::{ItemId, Metric};
@@ -29,18 +29,15 @@ pub struct ItemState {
 }
 
 /// Returns the amount of a version, 0 past the end.
-fn amount_at(versions: &[Version], id: usize) -> u64 {
-    versions.get(id).map_or(0, |version| version.amount)
+fn amount_at(amounts: &[ProposedAmount], id: usize) -> u64 {
+    amounts.get(id).map_or(0, |amount| amount.value())
 }
 
 /// Returns the amount that is proposed for a read, `OFFSET` past the end.
-fn read_amount(versions: &[Version], j: usize) -> u64
-    ensures { result ≡ read_amount versions.now j }
+fn read_amount(amounts: &[ProposedAmount], j: usize) -> u64
+    ensures { result ≡ read_amount amounts.now j }
 {
-    match versions.get(j) {
-        Some(version) => version.amount,
-        None => OFFSET,
-    }
+    amounts.get(j).copied().unwrap_or(ZERO).value()
 }
 
 /// Returns the states of the items before all updates.
@@ -51,7 +48,7 @@ fn read_amount(versions: &[Version], j: usize) -> u64
 pub fn opening_states<M: Metric>(
     alloc: Global,
     query: &AuditedQuery<M>,
-    amounts: &[Version],
+    amounts: &[ProposedAmount],
 ) -> Result<Vec<ItemState>, AllocError>
     ensures { IfOk result (λ states. (marks : List Bool)
         → AreStates (cost_in M.distance_by query.now) query.now.schedule query.now.query 0 marks states.items) }
@@ -61,7 +58,7 @@ pub fn opening_states<M: Metric>(
         let cost = query.opening_cost(ItemId(x));
         states.push(ItemState {
             cost,
-            amount: amount_at(amounts, x as usize).min(cost),
+            amount: amount_at(amounts, opening_id(query.items(), x) as usize).min(cost),
             loan: 0,
             owed: false,
             covered: true,
@@ -98,7 +95,7 @@ fn has_write_reason(states: &[ItemState], row: &[Access]) -> bool
 }
 
 /// Returns whether an update with these accesses raises the amount of a version with slack.
-fn has_read_reason(states: &[ItemState], row: &[Access], amounts: &[Version]) -> bool
+fn has_read_reason(states: &[ItemState], row: &[Access], amounts: &[ProposedAmount]) -> bool
     ensures { result ≡ true → HasReadReason states.now row.now (read_amount amounts.now) }
 {
     for j in 0..row.len() {
@@ -112,7 +109,12 @@ fn has_read_reason(states: &[ItemState], row: &[Access], amounts: &[Version]) ->
 
 /// Returns whether an update is marked: it is already, or every closed set of the bound's cost contains it because of a version
 /// that it overwrites or reads.
-pub fn is_forced(states: &[ItemState], row: &[Access], amounts: &[Version], marked: bool) -> bool
+pub fn is_forced(
+    states: &[ItemState],
+    row: &[Access],
+    amounts: &[ProposedAmount],
+    marked: bool,
+) -> bool
     ensures stays { marked ≡ true → result ≡ true }
     ensures reason { result ≡ true → (marked ≡ true) ⊎ ((has_write_reason states.now row.now ≡ true)
         ⊎ HasReadReason states.now row.now (read_amount amounts.now)) }
@@ -215,7 +217,7 @@ fn apply_row<M: Metric>(
     query: &AuditedQuery<M>,
     states: &mut [ItemState],
     row: &[Access],
-    amounts: &[Version],
+    amounts: &[ProposedAmount],
     marked: bool,
 ) -> Option<bool>
     requires len { length states.old ≡ length query.now.schedule.opening }
@@ -247,7 +249,7 @@ pub fn fits<M: Metric>(
     query: &AuditedQuery<M>,
     states: &mut [ItemState],
     row: &[Access],
-    amounts: &[Version],
+    amounts: &[ProposedAmount],
 ) -> bool
     requires len { length states.old ≡ length query.now.schedule.opening }
     requires row { All (λ a. a.item.0 < length query.now.schedule.opening) row.now }
@@ -267,7 +269,7 @@ pub fn steps<M: Metric>(
     query: &AuditedQuery<M>,
     states: &mut [ItemState],
     row: &[Access],
-    amounts: &[Version],
+    amounts: &[ProposedAmount],
     marked: bool,
 ) -> bool
     requires len { length states.old ≡ length query.now.schedule.opening }

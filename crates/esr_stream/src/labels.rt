@@ -61,19 +61,19 @@ impl Labels {
             .map_or(DEAD, |label| label.bound)
     }
 
-    /// Notes that the current search reaches an update. Returns whether it has not reached it before and a search can succeed from
-    /// it.
-    pub fn reach(&mut self, update: u16) -> bool {
+    /// Notes that the current search reaches an update. Returns `None` if it has not reached it before and a search can succeed from
+    /// it, and otherwise its bound, or `DEAD`.
+    pub fn reach(&mut self, update: u16) -> Option<u16> {
         let i = update as usize;
         if self.labels.len() <= i {
-            return false;
+            return Some(DEAD);
         }
         let label = self.labels[i];
         if label.bound == DEAD || label.last_search == self.search_number {
-            return false;
+            return Some(label.bound);
         }
         self.labels[i].last_search = self.search_number;
-        true
+        None
     }
 
     /// Raises the bound of an update, at least to `bound`.

@@ -4,7 +4,7 @@ ghost use Rattle.esr_history.specs.Queries.{must};
 ghost use Rattle.esr_stream.specs.Passes.{IsPrefixMarked, AreStates, KeepsEnough, KeepsInvariant, StayMarked};
 ghost use Rattle.esr_stream.specs.Query.{cost_in, updates_of};
 
-use crate::amounts::ProposedAmounts;
+use crate::amounts::{ProposedAmounts, to_u16_or_nobody};
 use crate::items::{ItemState, fits, is_forced, opening_states, steps};
 use crate::query::AuditedQuery;
 use esr_items::Metric;
@@ -26,14 +26,14 @@ pub fn start<M: Metric>(
         → AreStates (cost_in M.distance_by query.now) query.now.schedule query.now.query mandatory_count marks s.items)) }
 {
     let _invariant = query.history(); // brings the invariant into the proof
-    let mut states = opening_states(alloc, query, &proposed.versions)?;
+    let mut states = opening_states(alloc, query, &proposed.amounts)?;
     let mut list = Vec::new(alloc);
     if query.update_count() < mandatory_count {
         return Ok(None);
     }
     for i in 0..mandatory_count {
         let row = query.accesses(i, &mut list)?;
-        let own = proposed.versions_from(i);
+        let own = proposed.amounts_from(to_u16_or_nobody(i));
         let fit = fits(query, &mut states, row, own);
         if !fit {
             return Ok(None);
@@ -105,7 +105,7 @@ pub fn pass<M: Metric>(
             return Ok(Some(i));
         }
         let row = query.accesses(i, &mut list)?;
-        let own = proposed.versions_from(i);
+        let own = proposed.amounts_from(to_u16_or_nobody(i));
         let marked = is_forced(states, row, own, marks[i]);
         let keeps = steps(query, states, row, own, marked);
         if !keeps {

@@ -10,10 +10,11 @@ ghost use Rattle.esr_order.specs.Scans.{accesses_in};
 ghost use Rattle.esr_stream.specs.Query.{cost_in, updates_of};
 ghost use Rattle.esr_stream.specs.declared.reads.TheConstants.{OFFSET};
 
-use crate::reads::{offset_cost, values_by_item};
+use crate::reads::{OFFSET, offset_cost, values_by_item};
+use esr_base::MAX_VALUE;
 use esr_history::{History, TxnId};
 use esr_items::{ItemId, Metric};
-use esr_order::{Access, Index, count_must, is_committed_query, updates_before};
+use esr_order::{Access, Index, VersionLinks, count_must, is_committed_query, updates_before};
 use std::alloc::{AllocError, Global};
 use std::marker::Model;
 
@@ -144,6 +145,16 @@ impl<'a, M: Metric> AuditedQuery<'a, M> {
         Ok(row)
     }
 
+    /// Returns the links between the versions that the committed updates wrote.
+    pub fn versions(&self) -> &'a VersionLinks {
+        self.index.versions()
+    }
+
+    /// Returns the accesses to which these links belong.
+    pub fn linked_accesses(&self) -> &'a [Access] {
+        self.index.linked_accesses()
+    }
+
     /// Returns the number of items.
     pub fn items(&self) -> u32
         ensures { result ≡ length self.now.schedule.opening }
@@ -166,5 +177,23 @@ impl<'a, M: Metric> AuditedQuery<'a, M> {
         ensures { result ≡ cost_in M.distance_by self.now x.0 (value_at self.now.schedule.opening x.0) }
     {
         self.cost(x, self.history.opening(x))
+    }
+
+    /// Returns the cost of a version of an item, plus the offset, or the offset if there is no such item or version.
+    pub fn cost_or_zero(&self, x: ItemId, version: i64) -> u64 {
+        if x.0 < self.items() && version.unsigned_abs() <= MAX_VALUE {
+            self.cost(x, version)
+        } else {
+            OFFSET
+        }
+    }
+
+    /// Returns the cost of the opening value of an item, plus the offset, or the offset if there is no such item.
+    pub fn opening_cost_or_zero(&self, x: ItemId) -> u64 {
+        if x.0 < self.items() {
+            self.opening_cost(x)
+        } else {
+            OFFSET
+        }
     }
 }

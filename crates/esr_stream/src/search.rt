@@ -29,14 +29,14 @@
 //! explores all updates that are nearer to the source than the target is. Also rejected: a path for each target, which follows 8 per
 //! cent more arcs over 65,000 updates of nine writes, and a count of the targets of each update, which the sweep has to keep for
 //! each version that it passes.
-use crate::amounts::{NOBODY, ProposedAmounts, Version};
+use crate::amounts::{ProposedAmount, ProposedAmounts};
 use crate::frontier::{Frontier, NO_ENTRY, Origin, Reached};
 use crate::labels::{DEAD, Labels};
 use crate::query::AuditedQuery;
 use crate::residual::ResidualArc;
 use crate::update_reads::UpdateRead;
 use esr_items::Metric;
-use esr_order::Access;
+use esr_order::{NOBODY, VersionLink};
 use std::alloc::{AllocError, Global};
 
 /// The number of accesses after which no further search starts, divided by the number of updates. The hardest load that was
@@ -99,7 +99,7 @@ impl SearchState {
         self.source = source;
         self.labels.begin_search();
         let bound = self.labels.bound(source);
-        self.labels.reach(source);
+        let _reached = self.labels.reach(source);
         self.frontier.begin(source, bound)
     }
 
@@ -122,8 +122,8 @@ impl SearchState {
         arc: ResidualArc,
         update: u16,
     ) -> Result<bool, AllocError> {
-        if !self.labels.reach(update) {
-            self.low = self.low.min(self.labels.bound(update));
+        if let Some(bound) = self.labels.reach(update) {
+            self.low = self.low.min(bound);
             return Ok(false);
         }
         self.follow_new(amounts, origin, arc, update)
@@ -151,23 +151,24 @@ impl SearchState {
         amounts: &ProposedAmounts,
         origin: Origin,
         id: u32,
-        version: Version,
+        link: VersionLink,
+        amount: ProposedAmount,
     ) -> Result<bool, AllocError> {
         let mut continues = false;
-        if version.can_increase_overwritten() {
+        if amount.can_increase_overwritten() {
             let arc = ResidualArc::Increase(id);
-            continues = self.follow(amounts, origin, arc, version.overwritten_writer)?;
+            continues = self.follow(amounts, origin, arc, link.overwritten_writer)?;
         }
-        if version.overwriter != NOBODY && 0 < version.amount {
+        if link.overwriter != NOBODY && 0 < amount.value() {
             let arc = ResidualArc::Decrease(id);
-            continues |= self.follow(amounts, origin, arc, version.overwriter)?;
+            continues |= self.follow(amounts, origin, arc, link.overwriter)?;
         }
         if amounts.reads.is_empty() {
             return Ok(continues);
         }
         continues |= self.follow_readers(amounts, origin, id)?;
-        if version.may_repay() {
-            continues |= self.follow_borrowers(amounts, origin, version.overwritten())?;
+        if amount.may_repay() {
+            continues |= self.follow_borrowers(amounts, origin, amounts.overwritten(id))?;
         }
         Ok(continues)
     }
@@ -245,15 +246,12 @@ impl SearchState {
             steps: reached.steps,
         };
         self.low = reached.low;
-        let versions = amounts.versions_of(reached.update);
+        let own = amounts.versions_of(reached.update);
         let place = reached.place as usize;
-        let mut id = amounts
-            .first_version(reached.update)
-            .saturating_add(reached.place as u32);
-        for j in place..versions.len() {
+        let mut id = own.first.saturating_add(reached.place as u32);
+        for j in place..own.links.len().min(own.amounts.len()) {
             self.visits_left = self.visits_left.saturating_sub(1);
-            let version = versions[j];
-            if self.follow_version(amounts, origin, id, version)? {
+            if self.follow_version(amounts, origin, id, own.links[j], own.amounts[j])? {
                 self.frontier
                     .set_place(entry, j.saturating_add(1), self.low);
                 return Ok(Scan::Paused);
@@ -263,7 +261,7 @@ impl SearchState {
         if amounts.reads.is_empty() {
             return Ok(Scan::Finished);
         }
-        self.scan_reads(amounts, origin, reached, versions.len())
+        self.scan_reads(amounts, origin, reached, own.links.len())
     }
 
     /// Follows the arcs of the reads of a reached update. `versions` is the number of its versions.
@@ -332,7 +330,6 @@ impl SearchState {
         query: &AuditedQuery<M>,
         amounts: &ProposedAmounts,
         end: u16,
-        buffer: &mut Vec<Access>,
     ) -> Result<u64, AllocError> {
         self.capacities.clear();
         let mut least = u64::MAX;
@@ -344,7 +341,7 @@ impl SearchState {
             if reached.predecessor == NO_ENTRY {
                 return Ok(least);
             }
-            let capacity = reached.arc.capacity(query, amounts, buffer)?;
+            let capacity = reached.arc.capacity(query, amounts);
             self.capacities.push(capacity)?;
             least = least.min(capacity);
             entry = reached.predecessor;
@@ -400,22 +397,14 @@ impl SearchState {
         amounts: &mut ProposedAmounts,
         entry: u16,
         excess: u64,
-        buffer: &mut Vec<Access>,
     ) -> Result<Routed, AllocError> {
-        let bottleneck = self.bottleneck(query, amounts, entry, buffer)?;
+        let bottleneck = self.bottleneck(query, amounts, entry)?;
         let update = self
             .frontier
             .get(entry)
             .map_or(NOBODY, |reached| reached.update);
-        if query.update_count() <= update as usize {
-            return Ok(Routed {
-                amount: 0,
-                saturates: true,
-            });
-        }
-        let accesses = query.accesses(update as usize, buffer)?;
         let most = excess.min(bottleneck);
-        let amount = amounts.fill_targets(accesses, update, self.source, most);
+        let amount = amounts.fill_targets(query, update, self.source, most);
         self.augment(amounts, entry, amount);
         Ok(Routed {
             amount,
@@ -430,7 +419,6 @@ impl SearchState {
         amounts: &mut ProposedAmounts,
         source: u16,
         excess: u64,
-        buffer: &mut Vec<Access>,
     ) -> Result<u64, AllocError> {
         let mut left = excess;
         self.begin(source)?;
@@ -440,7 +428,7 @@ impl SearchState {
                 return Ok(0);
             };
             if self.has_target(amounts, entry) {
-                let routed = self.route(query, amounts, entry, left, buffer)?;
+                let routed = self.route(query, amounts, entry, left)?;
                 left = left.saturating_sub(routed.amount);
                 if left == 0 || routed.saturates {
                     self.raise_bounds();
@@ -469,7 +457,6 @@ impl SearchState {
         amounts: &mut ProposedAmounts,
         update: u16,
         excess: u64,
-        buffer: &mut Vec<Access>,
     ) -> Result<(), AllocError> {
         // the versions that it overwrites are full, so no target is one arc away
         self.labels.raise_bound(update, 2);
@@ -478,7 +465,7 @@ impl SearchState {
             if excess == 0 || self.visits_left == 0 {
                 return Ok(());
             }
-            excess = self.search(query, amounts, update, excess, buffer)?;
+            excess = self.search(query, amounts, update, excess)?;
         }
         Ok(())
     }

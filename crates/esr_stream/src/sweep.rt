@@ -1,4 +1,4 @@
-//! Proposes amounts: lists the versions, sweeps over the updates in reverse order, and stores the amounts (`amounts`).
+//! Proposes amounts: sweeps over the updates in reverse order, and stores the amounts (`amounts`).
 use crate::amounts::{ProposedAmounts, to_u16_or_nobody};
 use crate::query::AuditedQuery;
 use crate::search::SearchState;
@@ -16,11 +16,10 @@ fn sweep<M: Metric>(
     let mut buffer = Vec::new(alloc);
     for i in (first..query.update_count()).rev() {
         let update = to_u16_or_nobody(i);
-        let accesses = query.accesses(i, &mut buffer)?;
-        let excess = amounts.distribute(accesses, update);
+        let excess = amounts.distribute(query, update);
         if 0 < excess {
             amounts.list_reads(alloc, query, &mut buffer)?;
-            searches.route_excess(query, amounts, update, excess, &mut buffer)?;
+            searches.route_excess(query, amounts, update, excess)?;
         }
     }
     Ok(())
@@ -32,20 +31,13 @@ fn sweep<M: Metric>(
 /// # Errors
 ///
 /// An allocation failed.
-pub fn propose_amounts<M: Metric>(
+pub fn propose_amounts<'a, M: Metric>(
     alloc: Global,
-    query: &AuditedQuery<M>,
+    query: &AuditedQuery<'a, M>,
     first: usize,
-) -> Result<ProposedAmounts, AllocError> {
-    let mut buffer = Vec::new(alloc);
-    let mut amounts = ProposedAmounts::opening(alloc, query)?;
-    for i in 0..query.update_count() {
-        let accesses = query.accesses(i, &mut buffer)?;
-        amounts.push_update(query, accesses, to_u16_or_nobody(i))?;
-    }
-    amounts.init_amounts()?;
+) -> Result<ProposedAmounts<'a>, AllocError> {
+    let mut amounts = ProposedAmounts::of(alloc, query)?;
     sweep(alloc, query, first, &mut amounts)?;
-    amounts.store_current();
     amounts.store_reads();
     Ok(amounts)
 }

@@ -6,12 +6,12 @@
 //! no update overwrites has no second arc, and an opening value has no first one.
 //!
 //! The reads are in a separate table, in commit order, so updates that only write pay nothing for them. It is filled when the
-//! first search starts: without an excess, no read has a raise or a loan. Rejected: to fill it while the versions are listed, which
+//! first search starts: without an excess, no read has a raise or a loan. Rejected: to fill it before the sweep, which
 //! makes the audits of the load `few` of `bench/audit` take 1.5 times the time.
-use crate::amounts::{NOBODY, NONE, elements_of, to_u16_or_nobody};
+use crate::amounts::{NONE, elements_of, opening_id, to_u16_or_nobody};
 use crate::query::AuditedQuery;
 use esr_items::Metric;
-use esr_order::Access;
+use esr_order::{Access, NOBODY};
 use std::alloc::{AllocError, Global};
 
 /// A read of a version by an update.
@@ -65,12 +65,12 @@ impl UpdateReads {
         }
     }
 
-    /// Returns the reads of the updates. `first_versions` has the id of the first version of each update, `versions` is the number
-    /// of versions, and `read_count` the number of reads: a growing list would leave each of its earlier blocks in the heap.
+    /// Returns the reads of the updates. `first_accesses` has the index of the first access of each update, `versions` is the number
+    /// of versions, and `read_count` at least the number of reads: a growing list would leave each of its earlier blocks in the heap.
     pub fn of<M: Metric>(
         alloc: Global,
         query: &AuditedQuery<M>,
-        first_versions: &[u32],
+        first_accesses: &[u32],
         versions: usize,
         read_count: usize,
         buffer: &mut Vec<Access>,
@@ -83,7 +83,8 @@ impl UpdateReads {
         let mut current = opening_versions(alloc, query.items())?;
         for i in 0..query.update_count() {
             let accesses = query.accesses(i, buffer)?;
-            let first_version = first_versions.get(i).copied().unwrap_or(NONE);
+            let first_access = first_accesses.get(i).copied().unwrap_or(NONE);
+            let first_version = first_access.saturating_add(query.items());
             reads.push_update(&mut current, accesses, to_u16_or_nobody(i), first_version)?;
         }
         reads.push_start()?;
@@ -175,6 +176,11 @@ impl UpdateReads {
         self.reads.len()
     }
 
+    /// Returns whether the reads are listed.
+    pub fn is_listed(&self) -> bool {
+        !self.first_of_version.is_empty()
+    }
+
     /// Returns whether no update reads, or the reads are not listed.
     pub fn is_empty(&self) -> bool {
         self.reads.is_empty()
@@ -244,9 +250,9 @@ impl UpdateReads {
 /// Returns the versions of the items before all updates.
 fn opening_versions(alloc: Global, items: u32) -> Result<Vec<CurrentVersion>, AllocError> {
     let mut versions = Vec::with_capacity(alloc, items as usize)?;
-    for id in 0..items {
+    for x in 0..items {
         versions.push(CurrentVersion {
-            id,
+            id: opening_id(items, x),
             last_read: NONE,
             writer: NOBODY,
         })?;

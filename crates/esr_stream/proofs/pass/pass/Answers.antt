@@ -21,7 +21,7 @@ loop-i-preserved g c =
     let items = recursion_from_All (λ (a : Access). a.item.0 < length h.opening) row c.in_ok-row.ensures.items in
     let marked = c.is_forced-marked.result in
     let kept = c.steps-keeps.ensures.row c.if-not-keeps.false in
-    let proposed = read_amount c.versions_from-own.result.now in
+    let proposed = read_amount c.amounts_from-own.result.now in
     let put : IsUpdateApplied C marked proposed row c.loop-i.states c.steps-keeps.new.states kept.0 kept.1 = kept.2 in
     record {
       len = c.steps-keeps.ensures.len ∙ c.loop-i.invariant.len;

@@ -29,7 +29,7 @@ loop-i-preserved g c =
     let sized : length new ≡ length old = c.fits-fit.ensures.len ∙ ap (λ (l : List ItemState). length l) c.deref_mut.ensures.value in
     let back = written_back new old c.loop-i.states.len c.loop-i.states.ok.0 sized in
     let kept = c.fits-fit.ensures.row c.if-not-fit.false in
-    let proposed = read_amount c.versions_from-own.result.now in
+    let proposed = read_amount c.amounts_from-own.result.now in
     let put : IsUpdateApplied C true proposed row old new kept.0 kept.1 =
     subst (λ l. IsUpdateApplied C true proposed row l new kept.0 kept.1) c.deref_mut.ensures.value kept.2 in
     record {
