@@ -122,8 +122,9 @@ impl Names {
         }
     }
 
-    /// Returns the position of the name, if it is bound, by the hash table.
-    fn search(&self, name: &str) -> Option<u32>
+    /// Returns the position of the name, if it is bound, by the hash table. For a name that is probably not bound this is
+    /// faster than `number_of`, which looks in the cache first.
+    pub fn search(&self, name: &str) -> Option<u32>
         ensures { result ≡ position_of self.now name.now }
     {
         let _names = &self.names; // brings the invariant into the proof
