@@ -259,6 +259,7 @@ impl Ledgers {
 
     /// Returns whether the charges of an update fit all limits, or else the transaction whose limit they exceed, like
     /// `quote`. If they fit, adds them, like `charge`. Otherwise it changes nothing.
+    #[inline(always)]
     pub fn try_charge(&mut self, u: TxnId, charges: &[(TxnId, u64)]) -> Quote
         requires { AreCharges self.old u charges.now }
         ensures quote { result ≡ quote_of self.old u charges.now }

@@ -1,12 +1,10 @@
 -- A list that is read from the end, and whose elements are moved in a loop.
-use Rattle.std.proofs.Common.{◌≡◌, ℕ, ◌+◌, ◌-◌, ◌<◌, ◌≤◌, List, [], ◌∷◌, ◌++◌, length, length-drop, sym, ◌∙◌, ap, subst, arith, suc, take, drop, set, get_or, inl, inr}
+use Rattle.std.proofs.Common.{◌≡◌, ℕ, ◌+◌, ◌-◌, ◌<◌, ◌≤◌, List, [], ◌∷◌, ◌++◌, length, length-drop, refl, ◌∙◌, ap, subst, arith, zero, suc, take, drop, set, get_or, inl, inr}
 use Rattle.std.specs.List.{insert, remove, copy_within}
-use Rattle.std.proofs.Math.ListN.{length-append, drop_of_length-le}
-use Rattle.std.proofs.Math.Seq.{append_snoc, take-set-lt, take-suc-set, set-append_left, take-append-le, drop-append-le, take_all, length-take-le}
+use Rattle.std.proofs.Math.Seq.{take_all}
 use Rattle.std.proofs.lemmas.List.{get_or_default}
 use Rattle.std.proofs.lemmas.List.Edits.{take-paste}
 use Rattle.std.proofs.lemmas.Bool.{cases_lt}
-use mathlib.Core.List.{append-nil}
 use Rattle.esr_history.specs.Ascending.{IsAscendingBy, IsGapFor}
 use Rattle.esr_history.proofs.Ascending.{rises}
 
@@ -34,36 +32,22 @@ moved_down xs i n len l =
     ∙ (ap (λ ys. take i xs ++ ys) (take_all (n - (i + 1)) (drop (i + 1) xs) (omega (arith, len, length-drop (i + 1) xs)))
     ∙ ap (λ k. take i xs ++ drop k xs) one))
 
-module _ {X : Type 0} (xs : List X) (i n : ℕ) (x : X) (len : n ≡ length xs) (le : i ≤ n) where
-  before : set (take (i + 1) (xs ++ x ∷ [])) i x ≡ take i xs ++ x ∷ []
-  before =
-      let one : i + 1 ≡ suc i = omega arith in
-      let longer : length (xs ++ x ∷ []) ≡ n + 1 = omega (arith, length-append xs (x ∷ []), len) in
-      ap (λ k. set (take k (xs ++ x ∷ [])) i x) one
-      ∙ (sym (take-set-lt (suc i) (xs ++ x ∷ []) i x (omega arith))
-      ∙ (take-suc-set (xs ++ x ∷ []) i x (omega arith)
-      ∙ ap (λ l. l ++ x ∷ []) (take-append-le i xs (x ∷ []) (omega (arith, len)))))
+-- an element appended is one inserted at the end
+pub inserted_last : {X : Type 0} (xs : List X) (n : ℕ) (x : X) → n ≡ length xs → xs ++ x ∷ [] ≡ insert xs n x
+inserted_last [] n x len = rw len refl
+inserted_last (y ∷ ys) n x len = rw len (ap (λ zs. y ∷ zs) (inserted_last ys (length ys) x refl))
 
-  after : take (n - i) (drop i (xs ++ x ∷ [])) ≡ drop i xs
-  after =
-      ap (take (n - i)) (drop-append-le i xs (x ∷ []) (omega (arith, len)))
-      ∙ (take-append-le (n - i) (drop i xs) (x ∷ []) (omega (arith, len, length-drop i xs))
-      ∙ take_all (n - i) (drop i xs) (omega (arith, len, length-drop i xs)))
+moved_past : {X : Type 0} (xs : List X) (k : ℕ) (x lower : X) → k < length xs → lower ≡ get_or (insert xs (suc k) x) k lower
+    → set (set (insert xs (suc k) x) (suc k) lower) k x ≡ insert xs k x
+moved_past [] k x lower l is = absurd (omega (arith, l))
+moved_past (y ∷ ys) zero x lower l is = ap (λ z. x ∷ z ∷ ys) is
+moved_past (y ∷ ys) (suc k) x lower l is = ap (λ zs. y ∷ zs) (moved_past ys k x lower (omega (arith, l)) is)
 
-  nothing : drop (i + 1 + (n - i)) (xs ++ x ∷ []) ≡ []
-  nothing = drop_of_length-le (xs ++ x ∷ []) (omega (arith, length-append xs (x ∷ []), len))
-
-  -- an element appended, the elements from place i moved up, and the element written there
-  pub moved_up : set (copy_within (xs ++ x ∷ []) i n (i + 1)) i x ≡ insert xs i x
-  moved_up =
-      let a : List X = take (i + 1) (xs ++ x ∷ []) in
-      let b : List X = take (n - i) (drop i (xs ++ x ∷ [])) in
-      let c : List X = drop (i + 1 + (n - i)) (xs ++ x ∷ []) in
-      let long : length a ≡ i + 1 = length-take-le (i + 1) (xs ++ x ∷ []) (omega (arith, length-append xs (x ∷ []), len)) in
-      set-append_left (a ++ b) c i x (omega (arith, length-append a b))
-      ∙ (ap (λ l. l ++ c) (set-append_left a b i x (omega arith))
-      ∙ (ap (λ l. (l ++ b) ++ c) before
-      ∙ (ap (λ l. ((take i xs ++ x ∷ []) ++ l) ++ c) after
-      ∙ (ap (λ l. ((take i xs ++ x ∷ []) ++ drop i xs) ++ l) nothing
-      ∙ (append-nil ((take i xs ++ x ∷ []) ++ drop i xs)
-      ∙ append_snoc (take i xs) x (drop i xs))))))
+-- an inserted element, exchanged with the one before it
+pub moved_one : {X : Type 0} (xs : List X) (place : ℕ) (x lower : X) → 0 < place → place ≤ length xs → lower ≡ get_or (insert xs place x) (place - 1) lower
+    → set (set (insert xs place x) place lower) (place - 1) x ≡ insert xs (place - 1) x
+moved_one xs place x lower some l is =
+    let k = place - 1 in
+    let next : place ≡ suc k = omega (arith, some) in
+    let here : lower ≡ get_or (insert xs (suc k) x) k lower = is ∙ ap (λ p. get_or (insert xs p x) k lower) next in
+    ap (λ p. set (set (insert xs p x) p lower) k x) next ∙ moved_past xs k x lower (omega (arith, some, l)) here

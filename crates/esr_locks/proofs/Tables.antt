@@ -14,7 +14,7 @@ use Rattle.esr_history.specs.ItemLocks.{ItemLocks}
 use Rattle.esr_history.proofs.Ascending.{any_placed}
 use Rattle.esr_history.proofs.Lists.{any_push, or_false}
 use Rattle.esr_locks.specs.Modes.{Mode, Read, Write, QueryRead}
-use Rattle.esr_locks.specs.LockEntries.{LockEntryModel, LockedItemsModel, empty_list, empty_entry, entry_at, items_locked_by, IsLockTable, with_lock, has_lock_in_mode}
+use Rattle.esr_locks.specs.LockEntries.{LockEntryModel, spare_of, LockedItemsModel, empty_list, empty_entry, entry_at, items_locked_by, IsLockTable, with_lock, has_lock_in_mode}
 use Rattle.esr_locks.specs.Tables.{no_locks, locks_at, is_writer, is_reader, has_update_lock, has_query_lock, has_lock, released, released_update, released_query, has_other_lock, contains_item}
 
 -- the locks at an item, by the rows
@@ -196,7 +196,7 @@ has_list [] (suc t) l = absurd (omega arith)
 has_list (h ∷ by_transaction) zero l = omega arith
 has_list (h ∷ by_transaction) (suc t) l = let m : t < length by_transaction = has_list by_transaction t l in omega arith
 
-pub capacity_of_row : (entries : List LockEntryModel) (x : ℕ) (new : LockEntryModel) → x < length entries → slice_index (map (λ r. r.spare_capacity) (set entries x new)) x ≡ new.spare_capacity
+pub capacity_of_row : (entries : List LockEntryModel) (x : ℕ) (new : LockEntryModel) → x < length entries → slice_index (map (λ r. spare_of r) (set entries x new)) x ≡ spare_of new
 capacity_of_row [] x new l = absurd (omega arith)
 capacity_of_row (r ∷ rs) zero new l = refl
 capacity_of_row (r ∷ rs) (suc x) new l = capacity_of_row rs x new (omega arith)

@@ -1,5 +1,5 @@
 -- The entry of an item in the lock table.
-use Rattle.std.specs.Prelude.{◌≡◌, ℕ, Bool, ◌+◌, ◌<◌, ◌≤◌, List, [], length, true, All, slice_index_or, Result, OnOk, OnErr}
+use Rattle.std.specs.Prelude.{◌≡◌, ℕ, Bool, ◌+◌, ◌<◌, ◌≤◌, List, [], length, true, All, slice_index_or, Result, OnOk, OnErr, min}
 use Rattle.smallvec.specs.SmallVec.{SmallVec, HasRoomFor}
 use Rattle.esr_base.specs.declared.numbers.ItemId.{ItemId}
 use Rattle.esr_base.specs.declared.numbers.TxnId.{TxnId}
@@ -9,10 +9,15 @@ use Rattle.esr_locks.specs.declared.lists.QueryReads.{QueryReads}
 use Rattle.esr_locks.specs.Modes.{Mode, Read, Write, QueryRead}
 use Rattle.esr_locks.specs.Tables.{no_locks, has_lock, has_update_lock, has_query_lock, with_reader, with_writer, with_query_read, contains_item}
 
--- the model of an entry: the locks, and the capacity left for more
+-- the model of an entry: the locks, and the capacity left for more readers and for more queries
 pub record LockEntryModel : Type 0 where
   pub locks : ItemLocks
-  pub spare_capacity : ℕ
+  pub spare_readers : ℕ
+  pub spare_queries : ℕ
+
+-- the capacity left for locks in any mode
+abbrev pub spare_of : LockEntryModel → ℕ
+spare_of r = min r.spare_readers r.spare_queries
 
 -- the effect of reserving capacity for one more element of a list
 pub record Reserves {T A E : Type 0} (old new : SmallVec T) (result : Result A E) : Type 0 where
@@ -58,7 +63,7 @@ abbrev pub empty_list : LockedItemsModel
 empty_list = record { items = []; spare_capacity = 0 }
 
 abbrev pub empty_entry : LockEntryModel
-empty_entry = record { locks = no_locks; spare_capacity = 0 }
+empty_entry = record { locks = no_locks; spare_readers = 0; spare_queries = 0 }
 
 abbrev pub entry_at : List LockEntryModel → ℕ → LockEntryModel
 entry_at entries x = slice_index_or entries x empty_entry

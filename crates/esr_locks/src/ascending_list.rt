@@ -1,16 +1,18 @@
 //! A list in ascending order of transaction numbers, searched by binary search. The caller keeps the order: it inserts at the
 //! index that `search` returns.
 //!
-//! Transactions often end in the order in which they began; then each end removes the first element of a list. If more
-//! than `MAX_EAGER_REMOVAL` elements are stored, this removal only increments the count of removed elements, which stay at the
-//! front. Once more than half of the stored elements are removed ones, the others move to the front. So in such a list the
-//! removal of the first element costs at most one move, amortized. Any other removal moves the elements after the removed one.
+//! Transactions often end in the order in which they began; then each end removes the first element of a list. A removal
+//! therefore tests the first element before it searches. If more than `MAX_EAGER_REMOVAL` elements are stored, this removal
+//! only increments the count of removed elements, which stay at the front. Once more than half of the stored elements are
+//! removed ones, the others move to the front. So in such a list the removal of the first element costs at most one move,
+//! amortized. Any other removal moves the elements after the removed one.
 //!
 //! Most lists have few elements. A list of at most `MAX_SHORT` is read from the end, which takes fewer steps than a binary
 //! search, and in most cases one, because a new transaction has the greatest number. An insertion or a removal moves the
 //! elements of such a list in a loop: `SmallVec::insert` and `SmallVec::remove` are calls, and rotate those of an inline list.
+//! An insertion exchanges the new element with one neighbour after another, because `copy_within` is a call there too.
 
-ghost use Rattle.std.specs.Prelude.{◌≡◌, ℕ, ◌+◌, ◌*◌, ◌<◌, ◌≤◌, ◌==◌, [], ◌∷◌, drop, length, filter, not, IfOk, IfErr, slice_set};
+ghost use Rattle.std.specs.Prelude.{◌≡◌, ℕ, ◌+◌, ◌*◌, ◌<◌, ◌≤◌, ◌==◌, List, [], ◌∷◌, ◌++◌, drop, length, filter, not, IfOk, IfErr, IsTrue, slice_set};
 ghost use Rattle.std.specs.List.{insert, remove};
 ghost use Rattle.smallvec.specs.SmallVec.{HasRoomFor};
 ghost use Rattle.esr_history.specs.Ascending.{IsAscendingBy, IsPlaceOf, IsGapFor};
@@ -63,6 +65,21 @@ fn remove_from_singleton<R: Numbered + MadeWith<Global> + Drop, const N: usize>(
     }
 }
 
+/// Moves an element from the end of a slice to an index, by exchanging it with one neighbour after another.
+#[inline(always)]
+fn move_last<R: Copy>(stored: &mut [R], at: usize, element: R)
+    requires { at < length stored.old }
+    ensures items { (xs : List R) → stored.old ≡ xs ++ element ∷ [] → stored.new ≡ insert xs at element }
+    ensures len { length stored.new ≡ length stored.old }
+{
+    let mut place = stored.len() - 1;
+    while place > at {
+        stored[place] = stored[place - 1];
+        stored[place - 1] = element;
+        place -= 1;
+    }
+}
+
 /// Inserts an element at an index by moving the later ones up in a loop. The capacity must be reserved.
 #[inline(always)]
 fn insert_into_short<R: MadeWith<Global> + Copy + Drop, const N: usize>(
@@ -74,11 +91,8 @@ fn insert_into_short<R: MadeWith<Global> + Copy + Drop, const N: usize>(
     requires spare_capacity { HasRoomFor elements.old 1 }
     ensures { elements.new.items ≡ insert elements.old.items at element }
 {
-    let len = elements.len();
     elements.push_reserved(element);
-    let stored = elements.as_mut_slice();
-    stored.copy_within(at..len, at + 1);
-    stored[at] = element;
+    move_last(elements.as_mut_slice(), at, element);
 }
 
 /// Inserts an element at an index. The capacity must be reserved. Most insertions are at the end and move nothing.
@@ -177,6 +191,17 @@ fn scan<R: Numbered>(elements: &[R], t: TxnId) -> Result<usize, usize>
         end -= 1;
     }
     Err(0)
+}
+
+/// Returns whether the first element is the transaction's.
+#[inline(always)]
+fn is_first<R: Numbered>(elements: &[R], t: TxnId) -> bool
+    ensures { IsTrue result → IsPlaceOf R.number elements.now t.0 0 }
+{
+    if elements.is_empty() {
+        return false;
+    }
+    elements[0].number() == t.0
 }
 
 /// Returns the index of a transaction's element, or else the index at which to insert it, by binary search.
@@ -297,8 +322,20 @@ impl<R: Numbered + MadeWith<Global> + Copy + Drop, const N: usize> AscendingList
         }
     }
 
-    /// Removes a transaction's element, if there is one. Most lists have at most one element, and need no search. In most
-    /// others there is none, since a release looks for an update among the queries too.
+    /// Returns the index of the element of a transaction that ends, like `search`. It tests the first element first.
+    #[inline(always)]
+    fn search_ending(&self, t: TxnId) -> Result<usize, usize>
+        requires { IsAscendingBy R.number self.now.items }
+        ensures found { IfOk result (IsPlaceOf R.number self.now.items t.0) }
+        ensures absent { IfErr result (IsGapFor R.number self.now.items t.0) }
+    {
+        if is_first(self.as_slice(), t) {
+            return Ok(0);
+        }
+        self.search(t)
+    }
+
+    /// Removes a transaction's element, if there is one. Most lists have at most one element, and need no search.
     #[inline(always)]
     pub fn remove_txn(&mut self, t: TxnId)
         requires { IsAscendingBy R.number self.old.items }
@@ -308,7 +345,7 @@ impl<R: Numbered + MadeWith<Global> + Copy + Drop, const N: usize> AscendingList
             0 => {}
             1 => remove_from_singleton(&mut self.elements, t),
             _ => {
-                if let Ok(at) = self.search(t) {
+                if let Ok(at) = self.search_ending(t) {
                     self.remove(at);
                 }
             }

@@ -3,11 +3,11 @@
 //! Queries are counted since a write is charged once for each read. Readers and queries ascend by number, so the
 //! lowest-numbered blocker is the writer or the first reader except the requester.
 
-ghost use Rattle.std.specs.Prelude.{◌≡◌, ◌≢◌, ℕ, ◌<◌, ◌≤◌, ◌==◌, Bool, false, ◌||◌, ◌&&◌, map, not, All, OnOk, OnErr, unwrap_or, None, if◌then◌else◌, option_map, min, ◌-◌, length};
+ghost use Rattle.std.specs.Prelude.{◌≡◌, ◌≢◌, ℕ, ◌<◌, ◌≤◌, ◌==◌, Bool, false, ◌||◌, ◌&&◌, map, not, All, IfOk, OnOk, OnErr, unwrap_or, None, if◌then◌else◌, option_map, ◌-◌, length};
 ghost use Rattle.esr_base.specs.declared.limits.TheConstants.{MAX_READS};
 ghost use Rattle.esr_history.specs.Ascending.{IsAscendingBy, IsSmallest};
 ghost use Rattle.esr_locks.specs.Modes.{conflicts};
-ghost use Rattle.esr_locks.specs.LockEntries.{query_and_count, with_lock, has_lock_in_mode, LockEntryModel};
+ghost use Rattle.esr_locks.specs.LockEntries.{query_and_count, spare_of, with_lock, has_lock_in_mode, LockEntryModel};
 ghost use Rattle.esr_locks.specs.Tables.{no_locks, is_writer, is_reader, has_update_lock, has_query_lock, blocks, with_reader, with_writer, with_query_read, released, released_update, released_query, has_other_lock};
 ghost use Rattle.std.specs.List.{AllByRecursion};
 ghost use Rattle.std.specs.Option.{option_map};
@@ -36,7 +36,8 @@ impl Model for LockEntry {
         readers = map (λ u. u.update.0) r.readers.items;
         queries = map query_and_count r.queries.items;
       };
-      spare_capacity = min (r.readers.capacity - length r.readers.items) (r.queries.capacity - length r.queries.items);
+      spare_readers = r.readers.capacity - length r.readers.items;
+      spare_queries = r.queries.capacity - length r.queries.items;
     } };
 
     ghost invariant = { λ r. IsAscendingBy (λ u. u.update.0) r.readers.items
@@ -157,18 +158,36 @@ impl LockEntry {
     #[inline(always)]
     pub fn reserve(&mut self) -> Result<(), AllocError>
         ensures locks { self.new.locks ≡ self.old.locks }
-        ensures ok { OnOk result (0 < self.new.spare_capacity) }
-        ensures no_capacity { OnErr result (self.old.spare_capacity ≡ 0) }
+        ensures ok { OnOk result (0 < spare_of self.new) }
+        ensures no_capacity { OnErr result (spare_of self.old ≡ 0) }
     {
         self.readers.reserve()?;
         self.queries.reserve()?;
         Ok(())
     }
 
+    /// Reserves capacity for one more reader.
+    #[inline(always)]
+    fn reserve_reader(&mut self) -> Result<(), AllocError>
+        ensures locks { self.new.locks ≡ self.old.locks }
+        ensures ok { OnOk result (0 < self.new.spare_readers) }
+    {
+        self.readers.reserve()
+    }
+
+    /// Reserves capacity for one more query.
+    #[inline(always)]
+    fn reserve_query(&mut self) -> Result<(), AllocError>
+        ensures locks { self.new.locks ≡ self.old.locks }
+        ensures ok { OnOk result (0 < self.new.spare_queries) }
+    {
+        self.queries.reserve()
+    }
+
     /// Adds a read by an update. Returns whether the update had neither read nor written the item.
     #[inline(always)]
     fn add_reader(&mut self, t: TxnId) -> bool
-        requires { 0 < self.old.spare_capacity }
+        requires { 0 < self.old.spare_readers }
         ensures locks { self.new.locks ≡ with_reader t.0 self.old.locks }
         ensures is_new { result ≡ not (has_update_lock self.old.locks t.0) }
     {
@@ -192,7 +211,7 @@ impl LockEntry {
     /// Adds a read by a query. Returns whether the query had not read the item.
     #[inline(always)]
     fn add_query_read(&mut self, q: TxnId) -> bool
-        requires spare_capacity { 0 < self.old.spare_capacity }
+        requires spare_capacity { 0 < self.old.spare_queries }
         requires count_within_max { All (λ r. r.0 ≡ q.0 → r.1 < MAX_READS) self.old.locks.queries }
         ensures locks { self.new.locks ≡ with_query_read q.0 self.old.locks }
         ensures is_new { result ≡ not (has_query_lock self.old.locks q.0) }
@@ -203,7 +222,7 @@ impl LockEntry {
     /// Adds a lock. Returns whether the transaction held none on the item.
     #[inline(always)]
     pub fn add(&mut self, t: TxnId, mode: Mode) -> bool
-        requires spare_capacity { mode ≢ Mode.Write → 0 < self.old.spare_capacity }
+        requires spare_capacity { mode ≢ Mode.Write → 0 < spare_of self.old }
         requires count_within_max { mode ≡ Mode.QueryRead → All (λ r. r.0 ≡ t.0 → r.1 < MAX_READS) self.old.locks.queries }
         ensures locks { self.new.locks ≡ with_lock mode t.0 self.old.locks }
         ensures is_new { result ≡ not (has_lock_in_mode mode self.old.locks t.0) }
@@ -212,6 +231,28 @@ impl LockEntry {
             Mode::Read => self.add_reader(t),
             Mode::Write => self.add_writer(t),
             Mode::QueryRead => self.add_query_read(t),
+        }
+    }
+
+    /// Reserves capacity for a lock in this mode, and adds the lock. Returns whether the transaction held none on the item. If
+    /// an allocation fails, the locks are unchanged.
+    #[inline(always)]
+    pub fn try_add(&mut self, t: TxnId, mode: Mode) -> Result<bool, AllocError>
+        requires { mode ≡ Mode.QueryRead → All (λ r. r.0 ≡ t.0 → r.1 < MAX_READS) self.old.locks.queries }
+        ensures locks { OnOk result (self.new.locks ≡ with_lock mode t.0 self.old.locks) }
+        ensures is_new { IfOk result (λ is_new. is_new ≡ not (has_lock_in_mode mode self.old.locks t.0)) }
+        ensures err { OnErr result (self.new.locks ≡ self.old.locks) }
+    {
+        match mode {
+            Mode::Read => {
+                self.reserve_reader()?;
+                Ok(self.add_reader(t))
+            }
+            Mode::Write => Ok(self.add_writer(t)),
+            Mode::QueryRead => {
+                self.reserve_query()?;
+                Ok(self.add_query_read(t))
+            }
         }
     }
 

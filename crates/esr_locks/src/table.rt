@@ -4,15 +4,15 @@
 //! the locks of each item and the spare capacity; the lists by transaction are visible only through `items_of`, which a
 //! commit uses to find the items written.
 //!
-//! `reserve`, or for a write `reserve_list`, is called before anything changes. Both are inlined, since each read and write
-//! calls one of them and it usually finds spare capacity. Growth is a separate function, so that the usual path does not pay
-//! for its locals.
+//! A write calls `reserve_list` before anything changes. A read calls `try_add_read_update` or `try_add_read_query`, which
+//! reserves capacity and adds the lock, so that the item is looked up once. All three are inlined, since they usually find
+//! spare capacity. Growth is a separate function, so that the usual path does not pay for its locals.
 
 ghost use Rattle.std.specs.Prelude.{◌≡◌, ℕ, ◌<◌, ◌≤◌, ◌≢◌, ◌==◌, [], length, map, All, false, IfOk, OnOk, OnErr, slice_index, slice_set, true, if◌then◌else◌, option_map};
 ghost use Rattle.std.specs.List.{range_with_len};
 ghost use Rattle.esr_base.specs.declared.limits.TheConstants.{MAX_READS};
 ghost use Rattle.esr_history.specs.Ascending.{IsAscendingBy, IsSmallest};
-ghost use Rattle.esr_locks.specs.LockEntries.{query_and_count, entry_at, items_locked_by, with_lock, has_lock_in_mode, IsLockTable};
+ghost use Rattle.esr_locks.specs.LockEntries.{query_and_count, entry_at, items_locked_by, spare_of, with_lock, has_lock_in_mode, IsLockTable};
 ghost use Rattle.esr_locks.specs.Tables.{no_locks, locks_at, spare_list_capacity, spare_lock_capacity, has_lock, has_update_lock, has_query_lock, contains_item, blocks_read, blocks_write, with_reader, with_writer, with_query_read, released, has_lock_unlike, has_other_lock, LockTableModel};
 
 use crate::entry::LockEntry;
@@ -43,7 +43,7 @@ impl Model for LockTable {
     ghost view = { λ t. record {
       locks = map (λ r. r.locks) t.entries.items;
       spare_by_item = map
-          (λ r. r.spare_capacity) t.entries.items;
+          (λ r. spare_of r) t.entries.items;
       spare_by_transaction = map (λ h. h.spare_capacity) t.by_transaction.items;
     } };
 
@@ -299,6 +299,58 @@ impl LockTable {
         ensures locks { self.new.locks ≡ slice_set self.old.locks x.0 (with_query_read q.0 (locks_at self.old.locks x.0)) }
     {
         self.add(q, x, Mode::QueryRead);
+    }
+
+    /// Adds a lock, and the item to the transaction's list if it held no lock on it. Reserves capacity among the locks of the
+    /// item first.
+    #[inline(always)]
+    fn try_add_listed(&mut self, t: TxnId, x: ItemId, mode: Mode) -> Result<(), NoMemory>
+        requires item { x.0 < length self.old.locks }
+        requires list_capacity { 0 < spare_list_capacity self.old t.0 }
+        requires count_within_max { mode ≡ Mode.QueryRead
+            → All (λ r. r.0 ≡ t.0 → r.1 < MAX_READS) (locks_at self.old.locks x.0).queries }
+        ensures ok { OnOk result (self.new.locks ≡ slice_set self.old.locks x.0 (with_lock mode t.0 (locks_at self.old.locks x.0))) }
+        ensures err { OnErr result (self.new.locks ≡ self.old.locks) }
+    {
+        let Ok(is_new) = self.entries[x.0 as usize].try_add(t, mode) else {
+            return Err(NoMemory);
+        };
+        if is_new {
+            self.by_transaction[t.0 as usize].push(x);
+        }
+        Ok(())
+    }
+
+    /// Reserves capacity for the read lock of an update, and adds the lock.
+    ///
+    /// # Errors
+    ///
+    /// `NoMemory` if spare capacity is missing and the allocation fails; the locks are unchanged.
+    #[inline(always)]
+    pub fn try_add_read_update(&mut self, t: TxnId, x: ItemId) -> Result<(), NoMemory>
+        requires { x.0 < length self.old.locks }
+        ensures ok { OnOk result (self.new.locks ≡ slice_set self.old.locks x.0 (with_reader t.0 (locks_at self.old.locks x.0))) }
+        ensures err { OnErr result (self.new.locks ≡ self.old.locks) }
+    {
+        self.reserve_list(t)?;
+        self.try_add_listed(t, x, Mode::Read)
+    }
+
+    /// Reserves capacity for the read lock of a query, and adds the lock or increments its number of reads, like
+    /// `try_add_read_update`.
+    ///
+    /// # Errors
+    ///
+    /// `NoMemory` if spare capacity is missing and the allocation fails; the locks are unchanged.
+    #[inline(always)]
+    pub fn try_add_read_query(&mut self, q: TxnId, x: ItemId) -> Result<(), NoMemory>
+        requires item { x.0 < length self.old.locks }
+        requires count_within_max { All (λ r. r.0 ≡ q.0 → r.1 < MAX_READS) (locks_at self.old.locks x.0).queries }
+        ensures ok { OnOk result (self.new.locks ≡ slice_set self.old.locks x.0 (with_query_read q.0 (locks_at self.old.locks x.0))) }
+        ensures err { OnErr result (self.new.locks ≡ self.old.locks) }
+    {
+        self.reserve_list(q)?;
+        self.try_add_listed(q, x, Mode::QueryRead)
     }
 
     /// Releases all locks of a transaction. If its kind is known, it has no lock that this kind does not take.

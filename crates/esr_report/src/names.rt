@@ -4,9 +4,10 @@
 //! An entry takes 48 bytes: the key and the name, which has at most 16 bytes. No line of a script contains a longer name;
 //! `bind` returns `AllocError` for one.
 //!
-//! Most look-ups need no search of the hash table: a direct-mapped cache, indexed by a hash of 14 bits of the key (its
-//! *slot*), has the position of the name that was bound last with that slot. The contracts do not mention the cache: a wrong
-//! or missing position only costs time.
+//! Most look-ups need no search of the hash table: a cache, indexed by a hash of 14 bits of the key (its *slot*), has the
+//! position of the name that was bound last with that slot. The name that was bound before it moves to the other slot of
+//! the pair, whose numbers differ in the last bit: of 4,096 names, a tenth would otherwise be missing. The contracts do not
+//! mention the cache: a wrong or missing position only costs time.
 //!
 //! The hash has a seed. If it were known to the author of a script, the script could have 60,000 names of equal hash, and each
 //! look-up would compare them all.
@@ -42,17 +43,27 @@ type Name = ArrayString<16>;
 #[derive(Drop)]
 pub struct Names {
     names: IndexMap<Key, Name, SeededHash>,
-    /// For each slot, the position of the name that was bound last with this slot, or 0. It is empty until the first name is
-    /// bound, and as long as its allocation fails.
+    /// For each slot, the position of the name that was bound last with this slot, or of one that moved from the other slot
+    /// of the pair, or 0. It is empty until the first name is bound, and as long as its allocation fails.
     cache: Vec<u32>,
 }
 
-/// Stores the position of a newly bound name in the cache.
+/// Returns the other slot of the pair.
+#[inline(always)]
+fn other_slot(slot: usize) -> usize {
+    slot ^ 1
+}
+
+/// Stores the position of a newly bound name in the cache. A position that is stored in this slot moves to the other one.
 fn store_position(cache: &mut Vec<u32>, slot: usize, position: u32) {
     if cache.is_empty() {
         let _ = cache.resize(CACHE_SLOTS, 0);
     }
-    if slot < cache.len() {
+    let other = other_slot(slot);
+    if slot < cache.len() && other < cache.len() {
+        if cache[slot] != 0 {
+            cache[other] = cache[slot];
+        }
         cache[slot] = position;
     }
 }
@@ -94,15 +105,15 @@ impl Names {
         self.names.len()
     }
 
-    /// Returns the position of the name with this key, if the cache has it. The key of a longer name equals no key of the
-    /// table, so the length of a name is not tested before.
+    /// Returns the position of the name with this key, if the cache has it in this slot. The key of a longer name equals no
+    /// key of the table, so the length of a name is not tested before.
     #[inline(always)]
-    fn cached_position(&self, key: Key) -> Option<u32>
+    fn cached_position(&self, key: Key, slot: usize) -> Option<u32>
         ensures short { IfSome result (λ p. key.length ≤ 16) }
         ensures position { (name : List ℕ) → IsKeyOf key name
             → IfSome result (λ p. position_of self.now name ≡ Some p) }
     {
-        let position = *self.cache.get(key.slot())?;
+        let position = *self.cache.get(slot)?;
         let (found_key, _) = self.names.get_index(position as usize)?;
         if *found_key == key {
             Some(position)
@@ -111,9 +122,9 @@ impl Names {
         }
     }
 
-    /// Returns the position of the name, if it is bound, by the hash table.
-    #[inline(never)]
-    fn search(&self, name: &str) -> Option<u32>
+    /// Returns the position of the name, if it is bound, by the hash table. For a name that is probably not bound this is
+    /// faster than `number_of`, which looks in the cache first.
+    pub fn search(&self, name: &str) -> Option<u32>
         ensures { result ≡ position_of self.now name.now }
     {
         let _names = &self.names; // brings the invariant into the proof
@@ -126,15 +137,27 @@ impl Names {
         }
     }
 
+    /// Returns the position of the name, if it is bound, after a look-up of its slot in the cache.
+    #[inline(never)]
+    fn number_of_uncached(&self, name: &str) -> Option<u32>
+        ensures { result ≡ position_of self.now name.now }
+    {
+        let key = key_of(name);
+        match self.cached_position(key, other_slot(key.slot())) {
+            Some(position) => Some(position),
+            None => self.search(name),
+        }
+    }
+
     /// Returns the position of the name, from 0, if it is bound.
     #[inline(always)]
     pub fn number_of(&self, name: &str) -> Option<u32>
         ensures { result ≡ position_of self.now name.now }
     {
         let key = key_of(name);
-        match self.cached_position(key) {
+        match self.cached_position(key, key.slot()) {
             Some(position) => Some(position),
-            None => self.search(name),
+            None => self.number_of_uncached(name),
         }
     }
 

@@ -264,7 +264,7 @@ impl Script {
         requires { words.now ≡ codes "begin " ++ name.now }
         ensures { Executes (execute self.old (command.begin_update name.now limit)) self.new out.old out.new result }
     {
-        if self.transactions.number_of(name).is_some() {
+        if self.transactions.search(name).is_some() {
             return place_error(out, LineError::NameInUse);
         }
         self.ask_update(
@@ -285,7 +285,7 @@ impl Script {
     ) -> Result<LineOutcome, RunFault>
         ensures { Executes (begin self.old name.now event) self.new out.old.items out.new.items result }
     {
-        if self.transactions.number_of(name).is_some() {
+        if self.transactions.search(name).is_some() {
             return reply_error(out, LineError::NameInUse);
         }
         self.ask(alone(name), event, out)

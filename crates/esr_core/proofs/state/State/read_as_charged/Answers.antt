@@ -1,4 +1,4 @@
-use Rattle.std.proofs.Common.{◌≡◌, ℕ, ◌+◌, ◌-◌, ◌<◌, ◌≤◌, ◌∙◌, sym, ap, arith, refl, None, Some, Option, length, get_or, true, IfSome}
+use Rattle.std.proofs.Common.{◌≡◌, ℕ, ◌+◌, ◌-◌, ◌<◌, ◌≤◌, ◌∙◌, sym, ap, arith, refl, None, Some, Option, Result, Ok, Err, OnErr, length, get_or, true, IfSome}
 use Rattle.esr_core.specs.Types.{TxnId, Read}
 use Rattle.esr_history.specs.Events.{is_active, total_read_count}
 use Rattle.esr_history.specs.Machine.{accepted_in}
@@ -28,8 +28,8 @@ charge_read-requires c =
       fits = each c.args.charge (λ b some. read_fits d h s.items s.transactions.items s.locks.locks s.ledgers rep c.args.q b.0 c.args.x b.1 none charge.0 (owed b some).1 (owed b some).0);
     }
 
-pub add_read_query-requires-clause-count_within_max : goal.add_read_query-requires-clause-count_within_max
-add_read_query-requires-clause-count_within_max c =
+pub try_add_read_query-requires-clause-count_within_max : goal.try_add_read_query-requires-clause-count_within_max
+try_add_read_query-requires-clause-count_within_max c =
     let s = c.args.self.now in
     bounded_here c.requires.accepted.0 c.requires.accepted.1 s.items s.transactions.items s.locks.locks s.ledgers c.requires.accepted.4 c.args.q.0 c.args.x.0 c.requires.item
     (read_bounded c.requires.accepted.0 c.requires.accepted.1 c.args.q c.args.x c.requires.accepted.3 c.requires.accepted.2.0)
@@ -57,9 +57,16 @@ returns-clause-represents c = λ d h rep charge none.
     let books = c.charge_read.ensures ∙ (ap (λ (o : Option (TxnId × ℕ)). charged_once s.ledgers c.args.q o) charge.2 ∙ read_books d h s.items s.transactions.items s.locks.locks s.ledgers rep c.args.q c.args.x charge.0 c.requires.item) in
     let act : is_active (accepted_in h) c.args.q.0 ≡ true = read_active d h c.args.q c.args.x none in
     let inside : c.args.x.0 < length h.opening = rw (← rep.count) c.requires.item in
-    rw (row.2, c.add_read_query.ensures.locks) (represents-query (d h.weights) h.opening (accepted_in h) s.items s.transactions.items s.locks.locks s.ledgers rep c.args.q c.args.x (c.args.q.0 - 1) row.0 c.charge_read.new.ledgers charge.0 act (follows d h rep.orderly (Read c.args.q c.args.x) none) inside (omega arith) (omega arith) row.1 books)
+    rw (row.2, c.in_ok-try_add_read_query.ensures.ok) (represents-query (d h.weights) h.opening (accepted_in h) s.items s.transactions.items s.locks.locks s.ledgers rep c.args.q c.args.x (c.args.q.0 - 1) row.0 c.charge_read.new.ledgers charge.0 act (follows d h rep.orderly (Read c.args.q c.args.x) none) inside (omega arith) (omega arith) row.1 books)
 
-pub add_read_query-requires-clause-item : goal.add_read_query-requires-clause-item
-add_read_query-requires-clause-item c =
+pub try_add_read_query-requires-clause-item : goal.try_add_read_query-requires-clause-item
+try_add_read_query-requires-clause-item c =
     let s = c.args.self.now in
     rw (locks_count c.requires.accepted.0 c.requires.accepted.1 s.items s.transactions.items s.locks.locks s.ledgers c.requires.accepted.4) c.requires.item
+
+after_error : {T E Q : Type 0} (result : Result T E) → Q → OnErr result Q
+after_error (Ok x) holds = tt
+after_error (Err e) holds = holds
+
+pub returns-in_err-try_add_read_query-clause-err : goal.returns-in_err-try_add_read_query-clause-err
+returns-in_err-try_add_read_query-clause-err c = λ d h rep. rw c.in_err-try_add_read_query.ensures.err (after_error c.from_residual.result rep)

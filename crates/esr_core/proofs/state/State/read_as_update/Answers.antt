@@ -22,13 +22,13 @@ returns-in-Some-clause-answers c = λ d h rep by.
 pub returns-clause-answers : goal.returns-clause-answers
 returns-clause-answers c = λ d h rep by.
     let s = c.args.self.now in
-    let new : State = record { items = s.items; transactions = s.transactions; locks = c.add_read_update.new.self; ledgers = s.ledgers } in
+    let new : State = record { items = s.items; transactions = s.transactions; locks = c.try_add_read_update.new.self; ledgers = s.ledgers } in
     let free : refusal d h (Read c.args.t c.args.x) ≡ None = sym (c.in_default.ensures ∙ read_update d h s.items s.transactions.items s.locks.locks s.ledgers rep c.args.t c.args.x (option_map (λ u. u.0) c.may_read_update.result) c.requires.item c.may_read_update.ensures by.0 by.1 by.2) in
     let act : is_active (accepted_in h) c.args.t.0 ≡ true = read_active d h c.args.t c.args.x free in
     let update : is_update (accepted_in h) c.args.t.0 ≡ true = update_from (accepted_in h) c.args.t.0 (active_parts (accepted_in h) c.args.t.0 act).0 by.0 in
     let inside : c.args.x.0 < length h.opening = rw (← rep.count) c.requires.item in
     let fits : FitsSigned w64 c.read-value.result = search rules in
     let after : IsStateAfter d h (accepted_in h ++ Read c.args.t c.args.x ∷ []) new =
-    rw (c.add_read_update.ensures.locks, c.in_ok-reserve.ensures.locks) (represents-read (d h.weights) h.opening (accepted_in h) s.items s.transactions.items s.locks.locks s.ledgers rep c.args.t c.args.x update act (follows d h rep.orderly (Read c.args.t c.args.x) free) inside) in
+    rw (c.in_ok-try_add_read_update.ensures.ok) (represents-read (d h.weights) h.opening (accepted_in h) s.items s.transactions.items s.locks.locks s.ledgers rep c.args.t c.args.x update act (follows d h rep.orderly (Read c.args.t c.args.x) free) inside) in
     accepted_state d h (Read c.args.t c.args.x) (Value (to_z w64 (of_z w64 c.read-value.result))) new free
     (ap Value (to_z-of_z w64 c.read-value.result fits ∙ (c.read-value.ensures.value ∙ rep.current c.args.x.0 inside))) after

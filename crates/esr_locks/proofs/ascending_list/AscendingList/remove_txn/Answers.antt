@@ -6,5 +6,5 @@ use Rattle.esr_locks.proofs.ascending_list.AscendingList.remove_txn.Goals as goa
 pub returns-in-Ok : goal.returns-in-Ok
 returns-in-Ok g c = c.remove.ensures ∙ sym (others_removed g.R.Numbered.number c.args.t.0 c.in-Ok.at c.args.self.now.items c.requires c.in-Ok.ensures.found)
 
-pub returns-in_default-search : goal.returns-in_default-search
-returns-in_default-search g c = sym (others_gap g.R.Numbered.number c.args.t.0 c.in_default-search.field-0 c.args.self.now.items c.in_default-search.ensures.absent)
+pub returns-in_default-search_ending : goal.returns-in_default-search_ending
+returns-in_default-search_ending g c = sym (others_gap g.R.Numbered.number c.args.t.0 c.in_default-search_ending.field-0 c.args.self.now.items c.in_default-search_ending.ensures.absent)

@@ -2,7 +2,7 @@ use Rattle.std.proofs.Common.{◌≡◌, ℕ, ◌<◌, ◌∙◌, sym, ap, subst
 use Rattle.std.proofs.lemmas.Bool.{not-false}
 use Rattle.std.proofs.lemmas.List.{length-map, get_or-map}
 use Rattle.esr_history.specs.ItemLocks.{ItemLocks}
-use Rattle.esr_locks.specs.LockEntries.{LockEntryModel, with_lock, has_lock_in_mode}
+use Rattle.esr_locks.specs.LockEntries.{LockEntryModel, spare_of, with_lock, has_lock_in_mode}
 use Rattle.esr_locks.specs.Tables.{LockTableModel, spare_list_capacity, locks_at, has_lock}
 use Rattle.esr_locks.proofs.Tables.{set_entry, IsLockTable-push, IsLockTable-already_locked, has_list, read_list, lock_more, such_has}
 use Rattle.esr_locks.proofs.table.LockTable.add.Goals as goal
@@ -17,9 +17,9 @@ in_list c =
 
 pub add-requires-clause-spare_capacity : goal.add-requires-clause-spare_capacity
 add-requires-clause-spare_capacity c = λ reads.
-    let spare : 0 < slice_index (map (λ (r : LockEntryModel). r.spare_capacity) c.self.inside.entries.items) c.args.x.0 = subst (λ (v : LockTableModel). 0 < slice_index v.spare_by_item c.args.x.0) (sym c.self.view_is) (c.requires.item_capacity reads) in
+    let spare : 0 < slice_index (map (λ (r : LockEntryModel). spare_of r) c.self.inside.entries.items) c.args.x.0 = subst (λ (v : LockTableModel). 0 < slice_index v.spare_by_item c.args.x.0) (sym c.self.view_is) (c.requires.item_capacity reads) in
     let in_rows : c.args.x.0 < length c.self.inside.entries.items = rw (← length-map c.self.inside.entries.items (λ (r : LockEntryModel). r.locks)) (subst (λ (v : LockTableModel). c.args.x.0 < length v.locks) (sym c.self.view_is) c.requires.item) in
-    subst (λ n. 0 < n) (get_or-map (λ (r : LockEntryModel). r.spare_capacity) c.self.inside.entries.items c.args.x.0 c.index_mut.result.now 0 in_rows ∙ ap (λ (r : LockEntryModel). r.spare_capacity) (sym c.index_mut.ensures.value)) spare
+    subst (λ n. 0 < n) (get_or-map (λ (r : LockEntryModel). spare_of r) c.self.inside.entries.items c.args.x.0 c.index_mut.result.now 0 in_rows ∙ ap (λ (r : LockEntryModel). spare_of r) (sym c.index_mut.ensures.value)) spare
 
 more : (c : After-add) (u : ℕ) → has_lock c.add.new.self.locks u ≡ true → (has_lock c.index_mut.result.now.locks u ≡ true) ⊎ (c.args.t.0 ≡ u)
 more c u is = lock_more c.args.mode c.args.t.0 u c.index_mut.result.now.locks (ap (λ (l : ItemLocks). has_lock l u) (sym c.add.ensures.locks) ∙ is)

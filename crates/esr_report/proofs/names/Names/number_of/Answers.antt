@@ -9,4 +9,4 @@ returns-in-Some c =
     sym (c.in-Some.ensures.position c.args.name.now key)
 
 pub returns-in-None : goal.returns-in-None
-returns-in-None c = c.search.ensures
+returns-in-None c = c.number_of_uncached.ensures
