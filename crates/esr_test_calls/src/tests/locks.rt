@@ -106,47 +106,59 @@ fn queries_are_in_order_with_counts(rt: HostRuntime) {
     assert!(rt; locks.query_reads(B) == [QueryReads { query: r, count: 1 }].as_slice());
 }
 
+/// Reserves and adds the lock of a read by an update in one call.
+fn try_read_by(rt: &impl Abort, locks: &mut LockTable, t: TxnId)
+    requires { 0 < length locks.old.locks }
+    ensures { length locks.new.locks ≡ length locks.old.locks }
+{
+    locks.try_add_read_update(t, A).expect(rt, "memory");
+}
+
 /// A row holds four readers without an allocation; no clause can state that the fifth gets one.
 #[test]
 fn more_readers_than_a_row_holds_are_in_order(rt: HostRuntime) {
     let mut locks = table(&rt, rt.alloc());
-    read_by(&rt, &mut locks, TxnId(14));
-    read_by(&rt, &mut locks, TxnId(12));
-    read_by(&rt, &mut locks, TxnId(15));
-    read_by(&rt, &mut locks, TxnId(11));
-    read_by(&rt, &mut locks, TxnId(13));
+    try_read_by(&rt, &mut locks, TxnId(14));
+    try_read_by(&rt, &mut locks, TxnId(12));
+    try_read_by(&rt, &mut locks, TxnId(15));
+    try_read_by(&rt, &mut locks, TxnId(11));
+    try_read_by(&rt, &mut locks, TxnId(13));
     assert!(rt; locks.may_write(TxnId(11), A) == Some(TxnId(12)));
     release(&mut locks, TxnId(12));
     assert!(rt; locks.may_write(TxnId(11), A) == Some(TxnId(13)));
 }
 
-/// A row holds four queries without an allocation; no clause can state that the fifth gets one.
+/// Returns one read by the query with this number.
+fn once(query: u32) -> QueryReads {
+    QueryReads {
+        query: TxnId(query),
+        count: 1,
+    }
+}
+
+/// A row holds seven queries without an allocation; no clause can state that the eighth gets one.
 #[test]
 fn more_queries_than_a_row_holds_are_in_order(rt: HostRuntime) {
     let mut locks = table(&rt, rt.alloc());
-    let q = TxnId(5);
-    let r = TxnId(2);
-    let s = TxnId(4);
-    let t = TxnId(1);
-    let u = TxnId(3);
-    reserve_lock(&rt, &mut locks, q, B);
-    locks.add_read_query(q, B);
-    reserve_lock(&rt, &mut locks, r, B);
-    locks.add_read_query(r, B);
-    reserve_lock(&rt, &mut locks, s, B);
-    locks.add_read_query(s, B);
-    reserve_lock(&rt, &mut locks, t, B);
-    locks.add_read_query(t, B);
-    reserve_lock(&rt, &mut locks, u, B);
-    locks.add_read_query(u, B);
-    locks.release(r);
+    locks.try_add_read_query(TxnId(5), B).expect(&rt, "memory");
+    locks.try_add_read_query(TxnId(2), B).expect(&rt, "memory");
+    locks.try_add_read_query(TxnId(4), B).expect(&rt, "memory");
+    locks.try_add_read_query(TxnId(8), B).expect(&rt, "memory");
+    locks.try_add_read_query(TxnId(1), B).expect(&rt, "memory");
+    locks.try_add_read_query(TxnId(3), B).expect(&rt, "memory");
+    locks.try_add_read_query(TxnId(7), B).expect(&rt, "memory");
+    locks.try_add_read_query(TxnId(6), B).expect(&rt, "memory");
+    locks.release(TxnId(2));
     assert!(rt;
         locks.query_reads(B)
             == [
-                QueryReads { query: t, count: 1 },
-                QueryReads { query: u, count: 1 },
-                QueryReads { query: s, count: 1 },
-                QueryReads { query: q, count: 1 }
+                once(1),
+                once(3),
+                once(4),
+                once(5),
+                once(6),
+                once(7),
+                once(8)
             ]
             .as_slice()
     );
