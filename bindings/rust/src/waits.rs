@@ -4,7 +4,8 @@
 //! ring can only appear when a transaction begins to wait, and is found by following the graph from there. The youngest
 //! transaction of a ring is the victim and is woken. A transaction that runs again keeps the age of its first attempt, so it
 //! becomes the oldest in time; before it runs again, it waits for the end of the transaction that it had waited for. Without
-//! the first rule it might be the victim forever, and without the second it would close the same ring again.
+//! the first rule it might be the victim forever, and without the second it would close the same ring again. That the end of
+//! a transaction frees an event that it blocks is a theorem about the machine (`an_end_frees` of `esr_liveness`).
 //!
 //! The graph is a part of the truth. Several readers may block a write, and the refusal names one of them; a transaction may
 //! be blocked by its own limit, and is then not registered; one whose blocker has ended waits for no one until it retries. A
