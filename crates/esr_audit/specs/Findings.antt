@@ -44,8 +44,8 @@ pub record IsAnswer (d : DistanceFunction) (h : Schedule) (q distance import : �
 abbrev pub HasAugmentationCount : Problem → Certificate → Type 0
 HasAugmentationCount p c = (n : ℕ) × (c.augmentations ≡ Some n) × AugmentsFromZero (network p) n (amounts c)
 
--- A closed set and a flow of equal worth, of a problem that represents q, prove the distance. The set is the smallest
--- of those of least cost.
+-- A closed set and a flow of equal worth, for a problem that represents q, prove the distance. The set is the smallest
+-- closed set of least cost.
 pub record IsShown (d : DistanceFunction) (h : Schedule) (q distance : ℕ) (before : List ℕ) (problem : Problem)
     (certificate : Certificate) : Type 0 where
   pub is_problem : IsProblemOf d h q problem
@@ -77,7 +77,7 @@ summary f = (f.query.0, f.distance, f.import, map (λ t. t.0) f.before.items)
 abbrev pub seen_summary : Summary → ℕ × ℕ × ℕ × List ℕ
 seen_summary s = (s.query.0, s.distance, s.import, listed s.before)
 
--- the summary of a committed query: all of it is fixed by the history
+-- the summary of a committed query, which the history determines
 abbrev pub summary_of : DistanceFunction → Schedule → ℕ → ℕ × ℕ × ℕ × List ℕ
 summary_of d h q = (q, least_distance d h q, import_in (charges_in d h) q, nearest_placement d h q)
 

@@ -8,7 +8,7 @@ use Rattle.esr_order.specs.Placements.{is_among, IsClosed}
 use Rattle.esr_order.specs.Relevant.{has_written}
 use Rattle.esr_cert.specs.Problem.{Chain, Problem, is_closed}
 
--- the positions, in a list of transactions, of those that pass the test: as a test of positions, and as a list
+-- the positions of the transactions in a list that pass a test: as a test of positions, and as a list
 abbrev pub passes_at : List ℕ → (ℕ → Bool) → ℕ → Bool
 passes_at us S i = elim (slice_get us i) [ Some u ↦ S u | None ↦ false ]
 
@@ -27,7 +27,7 @@ writers_of h q x = filter (has_written h x) (updates_committed_before h q)
 abbrev pub read_distance : DistanceFunction → Schedule → ℕ → ℕ → ℤ → ℕ
 read_distance d h q x v = sum_by (λ o. if o.item == x then value_distance d h x o.value v else 0) (reads_by h q)
 
--- the cost of version j of item x: of the value that its first j writers leave
+-- the cost of version j of item x, which is the value that its first j writers leave
 abbrev pub version_cost : DistanceFunction → Schedule → ℕ → ℕ → ℕ → ℕ
 version_cost d h q x j = read_distance d h q x (state h (take j (writers_of h q x)) x)
 

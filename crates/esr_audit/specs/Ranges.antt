@@ -5,7 +5,7 @@ use Rattle.esr_audit.specs.declared.ranges.TxnRange.{TxnRange}
 use Rattle.esr_audit.specs.declared.ranges.TxnList.{TxnList}
 use Rattle.esr_audit.specs.declared.ranges.TxnList.TheVariants.{Each, Ranges}
 
--- the numbers from the first up to the end, and not with it
+-- the numbers from the first up to the end, without the end
 abbrev pub numbers_in : TxnRange → List ℕ
 numbers_in s = range_with_len s.first (s.end - s.first)
 

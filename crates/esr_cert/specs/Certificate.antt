@@ -6,7 +6,7 @@ use Rattle.esr_cert.specs.Network.{network}
 use Rattle.esr_cert.specs.Flow.{are_within, is_conserved, worth}
 use Rattle.esr_cert.specs.Faults.{Fault, SetNotAscending, UnknownUpdate, SetNotClosed, OverCapacity, NotConserved, WorthNotCost, TooManyAugmentations}
 
--- a set, a flow in the network, in parts, the worth of both, and perhaps how many augmentations led to the flow
+-- a closed set, a flow by groups of arcs, the worth of both, and optionally the number of augmentations
 pub record Certificate : Type 0 where
   pub set : List ℕ
   pub chain_flow : List (List ℕ)
@@ -24,7 +24,7 @@ amounts c = concat c.chain_flow ++ c.back_flow ++ c.must_flow
 abbrev pub is_set_in_range : Problem → List ℕ → Bool
 is_set_in_range p set = list_all (λ u. nat_lt u (update_count p)) set
 
--- one row for each chain, as long as its costs
+-- one row for each chain, of the same length as its costs
 abbrev pub are_rows_matched : List Chain → List (List ℕ) → Bool
 are_rows_matched [] [] = true
 are_rows_matched [] (row ∷ rows) = false
@@ -36,11 +36,11 @@ is_within p c =
     are_rows_matched p.chains c.chain_flow && (length c.back_flow == length p.before)
     && (length c.must_flow == length p.must) && are_within (network p).arcs (amounts c)
 
--- the worth is the flow's and the set's cost
+-- the worth is the value of the flow and the cost of the set
 abbrev pub worth_matches : Problem → Certificate → Bool
 worth_matches p c = (c.worth == worth (network p) (amounts c)) && (c.worth == cost p (in_set c.set))
 
--- a count, if present, is at most nodes times arcs
+-- the number of augmentations, if present, is at most the number of nodes times the number of arcs
 abbrev pub is_count_in_bound : Problem → Option ℕ → Bool
 is_count_in_bound p None = true
 is_count_in_bound p (Some count) = nat_le count ((network p).node_count * length (network p).arcs)

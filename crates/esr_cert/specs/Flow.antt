@@ -3,7 +3,7 @@ use Rattle.std.specs.Prelude.{◌≡◌, ◌≢◌, ℕ, ◌+◌, ◌<◌, List,
 use Rattle.std.specs.List.{list_all, range_with_len}
 use Rattle.esr_cert.specs.Network.{Arc, Network, arc_at}
 
--- an amount is within an optional limit
+-- an amount is at most a limit, if there is one
 abbrev pub within : ℕ → Option ℕ → Bool
 within amount None = true
 within amount (Some limit) = nat_le amount limit
@@ -34,11 +34,11 @@ are_within [] (amount ∷ flow) = false
 are_within (arc ∷ arcs) [] = false
 are_within (arc ∷ arcs) (amount ∷ flow) = within amount arc.capacity && are_within arcs flow
 
--- inflow and outflow of a node are equal
+-- the inflow and the outflow of a node are equal
 abbrev pub is_conserved_at : List Arc → List ℕ → ℕ → Bool
 is_conserved_at arcs flow v = inflow arcs flow v == outflow arcs flow v
 
--- at each node but the source and the sink
+-- conservation of flow: at each node except the source and the sink
 abbrev pub is_conserved : Network → List ℕ → Bool
 is_conserved net flow =
     list_all (λ v. v == net.source || (v == net.sink || is_conserved_at net.arcs flow v)) (range_with_len 0 net.node_count)

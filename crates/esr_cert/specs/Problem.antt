@@ -5,21 +5,21 @@ use Rattle.std.specs.List.{list_all, list_any, sum_by}
 use Rattle.esr_base.specs.declared.limits.TheConstants.{MAX_ITEMS, MAX_TRANSACTIONS}
 use Rattle.esr_cert.specs.declared.range.TheConstants.{MAX_COST}
 
--- an item that a query read: its writers, ascending, and the cost of each version, of which there is one more
+-- an item that a query read: its writers, ascending, and the costs of its versions, of which there is one more than writers
 pub record Chain : Type 0 where
   pub item : ℕ
   pub writers : List ℕ
   pub costs : List ℕ
 
--- the updates' transaction numbers and, as positions among these, the pairs of which the first precedes the second, the
--- chains, and the updates that each set must contain
+-- A closure problem: the transaction numbers of the updates and, by positions in this list, the pairs of updates of which
+-- the first precedes the second, the chains, and the mandatory updates.
 pub record Problem : Type 0 where
   pub updates : List ℕ
   pub before : List (ℕ × ℕ)
   pub chains : List Chain
   pub must : List ℕ
 
--- how many updates there are
+-- the number of updates
 abbrev pub update_count : Problem → ℕ
 update_count p = length p.updates
 
@@ -27,11 +27,11 @@ update_count p = length p.updates
 abbrev pub in_set : List ℕ → ℕ → Bool
 in_set set u = list_any (λ v. v == u) set
 
--- with each update a closed set has all updates before it, and it has all that it must
+-- with each update, a closed set contains all updates that precede it; and it contains the mandatory updates
 abbrev pub is_closed : Problem → (ℕ → Bool) → Bool
 is_closed p has = list_all (λ e. not (has e.1) || has e.0) p.before && list_all has p.must
 
--- the version that a set leaves: how many writers there are up to and with the last one in the set
+-- the version that a set leaves: the number of writers up to the last one that is in the set
 abbrev pub version : (ℕ → Bool) → List ℕ → ℕ
 version has [] = 0
 version has (w ∷ writers) = if list_any has (w ∷ writers) then suc (version has writers) else 0
@@ -43,7 +43,7 @@ chain_cost has chain = get_or chain.costs (version has chain.writers) 0
 abbrev pub cost : Problem → (ℕ → Bool) → ℕ
 cost p has = sum_by (chain_cost has) p.chains
 
--- a closed set of least cost that is within every closed set of least cost
+-- a closed set of least cost that is contained in every closed set of least cost
 pub record IsSmallestLeastCostSet (p : Problem) (has : ℕ → Bool) : Type 0 where
   pub closed : is_closed p has ≡ true
   pub least : (other : ℕ → Bool) → is_closed p other ≡ true → cost p has ≤ cost p other

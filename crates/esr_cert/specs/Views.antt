@@ -32,7 +32,7 @@ certificate_from set chain_flow back_flow must_flow worth augmentations =
       augmentations = augmentations;
     }
 
--- a certificate of the code, as contracts see it
+-- the certificate that a value of the code represents
 abbrev pub certificate_of : Certificate → certificates.Certificate
 certificate_of c =
     certificate_from c.set.items c.chain_flow.items c.back_flow.items c.must_flow.items c.worth c.augmentations

@@ -3,7 +3,7 @@ use Rattle.std.specs.Prelude.{ℕ, ℤ, pos, List, Bool, true, false, not, Optio
 use Rattle.esr_history.specs.Events.{is_refusal, Event, Read, Write, Commit, Reply, Value, Entry}
 use Rattle.esr_history.specs.Machine.{Schedule}
 
--- an accepted read or write; its value is the one answered, or the one written
+-- an accepted read or write, with the value that was read or written
 pub record Operation : Type 0 where
   pub txn : ℕ
   pub item : ℕ

@@ -25,7 +25,7 @@ begins q _ = false
 abbrev pub before_begin : Schedule → ℕ → List Entry
 before_begin h q = before_first (λ e. begins q e.reply) h.entries
 
--- of a strict query, those of its updates that committed before it began; of another, none
+-- the mandatory updates: of a strict query, the updates that committed before it began; of any other query, none
 abbrev pub must : Schedule → ℕ → List ℕ
 must h q = if is_strict (accepted_in h) q then filter (is_committed (accepted (before_begin h q))) (updates_committed_before h q) else []
 
@@ -45,7 +45,7 @@ members h q S = filter S (updates_committed_before h q)
 abbrev pub cost : DistanceFunction → Schedule → ℕ → (ℕ → Bool) → ℕ
 cost d h q S = distance_from d h q (state h (members h q S))
 
--- With all its updates before it, the reads of a committed query are within the import charged to it.
+-- The distance between the reads of a committed query and the state after all its updates is at most its import.
 abbrev pub ImportBoundsDistance : DistanceFunction → Schedule → Type 0
 ImportBoundsDistance d h =
     (q : ℕ) → IsTrue (is_committed_query h q) → cost d h q (λ _. true) ≤ import_in (charges_in d h) q

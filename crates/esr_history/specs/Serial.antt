@@ -6,12 +6,12 @@ use Rattle.esr_history.specs.Events.{accepted, is_update, is_committed, written,
 use Rattle.esr_history.specs.Machine.{Schedule, accepted_in}
 use Rattle.esr_history.specs.Operations.{Operation, operations, commit_order}
 
--- whether some element and some later one pass the test
+-- whether some element and some later element pass the test
 abbrev pub any_ordered_pair : {X : Type 0} → (X → X → Bool) → List X → Bool
 any_ordered_pair r [] = false
 any_ordered_pair r (x ∷ xs) = list_any (r x) xs || any_ordered_pair r xs
 
--- of two transactions, on one item, and at least one of them writes
+-- two operations conflict: different transactions, the same item, and at least one writes
 abbrev pub conflict : Operation → Operation → Bool
 conflict a b = not (a.txn == b.txn) && ((a.item == b.item) && (a.writes || b.writes))
 
@@ -23,7 +23,7 @@ is_before h u v = any_ordered_pair (λ a b. (a.txn == u) && ((b.txn == v) && con
 abbrev pub committed_updates : Schedule → List ℕ
 committed_updates h = filter (is_update (accepted_in h)) (commit_order (accepted_in h))
 
--- lists each member once, u ahead of v wherever u is before v
+-- a serial order of the members: each occurs once, and u comes before v wherever u precedes v
 pub record IsSerialOrder (h : Schedule) (members : List ℕ) (order : List ℕ) : Type 0 where
   pub lists : (u : ℕ) → Contains order u ↔ Contains members u
   pub once : AllPairs (λ u v. u ≢ v) order

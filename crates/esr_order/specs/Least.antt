@@ -11,7 +11,8 @@ abbrev pub parts : List ℕ → List (List ℕ)
 parts [] = [] ∷ []
 parts (u ∷ us) = map (λ part. u ∷ part) (parts us) ++ parts us
 
--- whether a part contains, with each member, all updates of q that precede it, and those that q must see
+-- whether a list is a closed set: with each member it contains all updates of q that precede it; and it contains the
+-- mandatory updates
 abbrev pub is_closed_part : Schedule → ℕ → List ℕ → Bool
 is_closed_part h q part =
     list_all (λ v. list_all (λ u. not (is_before h u v) || is_among part u) (updates_committed_before h q)) part
@@ -21,7 +22,7 @@ is_closed_part h q part =
 abbrev pub closed_parts : Schedule → ℕ → List (List ℕ)
 closed_parts h q = filter (is_closed_part h q) (parts (updates_committed_before h q))
 
--- whether no closed set costs less
+-- whether no closed set costs less than this one
 abbrev pub is_least_part : DistanceFunction → Schedule → ℕ → List ℕ → Bool
 is_least_part d h q part =
     list_all (λ other. nat_le (cost d h q (is_among part)) (cost d h q (is_among other))) (closed_parts h q)
@@ -30,10 +31,10 @@ is_least_part d h q part =
 abbrev pub least_parts : DistanceFunction → Schedule → ℕ → List (List ℕ)
 least_parts d h q = filter (is_least_part d h q) (closed_parts h q)
 
--- their intersection, in commit order
+-- the intersection of the closed sets of least cost, in commit order: the smallest of them
 abbrev pub nearest_placement : DistanceFunction → Schedule → ℕ → List ℕ
 nearest_placement d h q = filter (λ u. list_all (λ part. is_among part u) (least_parts d h q)) (updates_committed_before h q)
 
--- and its cost
+-- the least distance: the cost of the nearest placement
 abbrev pub least_distance : DistanceFunction → Schedule → ℕ → ℕ
 least_distance d h q = cost d h q (is_among (nearest_placement d h q))

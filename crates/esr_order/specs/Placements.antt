@@ -9,8 +9,7 @@ use Rattle.esr_history.specs.Queries.{updates_committed_before, must, distance_f
 abbrev pub is_among : List ℕ → ℕ → Bool
 is_among us u = list_any (λ v. v == u) us
 
--- a serial order of the updates of q, and a position in it; the prefix before the position contains those that q must
--- see
+-- a serial order of the updates of q, and a position in it; the prefix before the position contains the mandatory updates
 pub record IsPlacement (h : Schedule) (q : ℕ) (order : List ℕ) (position : ℕ) : Type 0 where
   pub serial : IsSerialOrder h (updates_committed_before h q) order
   pub within : position ≤ length order
@@ -28,7 +27,7 @@ pub record IsLeastDistance (d : DistanceFunction) (h : Schedule) (q : ℕ) (n : 
   pub has : placement_distance d h q order position ≡ n
   pub none_less : (other : List ℕ) (k : ℕ) → IsPlacement h q other k → n ≤ placement_distance d h q other k
 
--- S contains, with an update of q, all updates of q that precede it, and those that q must see
+-- with each update of q, S contains all updates of q that precede it; and S contains the mandatory updates
 pub record IsClosed (h : Schedule) (q : ℕ) (S : ℕ → Bool) : Type 0 where
   pub downward : (u v : ℕ) → Contains (updates_committed_before h q) u → Contains (updates_committed_before h q) v → IsTrue (is_before h u v)
       → IsTrue (S v) → IsTrue (S u)
@@ -39,7 +38,7 @@ pub record IsLeastSet (d : DistanceFunction) (h : Schedule) (q : ℕ) (S : ℕ �
   pub closed : IsClosed h q S
   pub none_less : (T : ℕ → Bool) → IsClosed h q T → cost d h q S ≤ cost d h q T
 
--- that is contained in each closed set of least cost
+-- a closed set of least cost that is contained in every closed set of least cost
 pub record IsSmallestLeastSet (d : DistanceFunction) (h : Schedule) (q : ℕ) (S : ℕ → Bool) : Type 0 where
   pub least : IsLeastSet d h q S
   pub smallest : (T : ℕ → Bool) → IsLeastSet d h q T → All (λ u. IsTrue (S u) → IsTrue (T u)) (updates_committed_before h q)

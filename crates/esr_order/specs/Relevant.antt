@@ -20,14 +20,14 @@ abbrev pub IsConflictPath : Schedule → ℕ → ℕ → List ℕ → ℕ → Ty
 IsConflictPath h q u [] v = IsTrue (is_before h u v)
 IsConflictPath h q u (w ∷ row) v = Contains (updates_committed_before h q) w × IsTrue (is_before h u w) × IsConflictPath h q w row v
 
--- u wrote an item that q read, or a chain of conflicts leads from u to an update of q that did, or q must see u
+-- u wrote an item that q read, or a chain of conflicts leads from u to an update of q that did, or u is mandatory
 abbrev pub IsRelevant : Schedule → ℕ → ℕ → Type 0
 IsRelevant h q u =
     IsTrue (has_written_read h q u)
     ⊎ (((row : List ℕ) × (v : ℕ) × Contains (updates_committed_before h q) v × IsTrue (has_written_read h q v) × IsConflictPath h q u row v)
     ⊎ Contains (must h q) u)
 
--- the relevant ones among the updates of q, in commit order
+-- the relevant updates of q, in commit order
 pub record AreRelevant (h : Schedule) (q : ℕ) (us : List ℕ) : Type 0 where
   pub in_order : us ≡ filter (is_among us) (updates_committed_before h q)
   pub relevant : (u : ℕ) → Contains us u ↔ (Contains (updates_committed_before h q) u × IsRelevant h q u)

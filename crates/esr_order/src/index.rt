@@ -4,7 +4,8 @@
 //! Without an index it looks at the end of each transaction and sorts the ends, and it walks along the links of each
 //! update. A caller that audits several queries keeps an index instead. The index reads each entry of the log once, is
 //! lent to each audit, and is extended by the new entries. It does not hold the history: `IsIndexOf` relates it to the
-//! entries that it has read. The relation holds for longer logs too, since later entries do not affect it.
+//! entries that it has read. The relation holds for longer logs too, since later entries do not affect it. The index also
+//! links each version of an item to the one that it overwrites (`versions`). The relation does not mention these links.
 use crate::accesses::Access;
 use crate::rows::AccessRows;
 use crate::scan::push_committer;

@@ -25,9 +25,9 @@ pub const NO_VERSION: u32 = 1 << 31;
 /// The neighbors of the version that an access writes.
 #[derive(Clone, Copy)]
 pub struct VersionLink {
-    /// The number of the version that it overwrites: the index of its access, or `u32::MAX` less its item for an opening value, so
-    /// that the opening values come before the accesses when a number wraps; `NO_VERSION` for a read, and for a write that the
-    /// same update overwrites later.
+    /// The number of the version that it overwrites: the index of its access, or `u32::MAX` less its item for an opening value. So
+    /// in a list of the opening values, from the last item to the first, and then of the accesses, it is at this number plus the
+    /// number of items, wrapped. `NO_VERSION` for a read, and for a write that the same update overwrites later.
     pub overwritten: u32,
     /// The position in commit order of the update that wrote the version that it overwrites; `NOBODY` for an opening value.
     pub overwritten_writer: u16,

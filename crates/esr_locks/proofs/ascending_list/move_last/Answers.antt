@@ -16,7 +16,7 @@ loop-place-preserved g c =
     let place = c.loop-place.place in
     let lower = c.index-stored-place.result in
     record {
-      in_range = omega (arith, c.loop-place.invariant.in_range, length-set (set c.loop-place.stored place lower) (place - 1), length-set c.loop-place.stored place, length (set c.loop-place.stored place lower));
+      in_range = omega (arith, c.loop-place.invariant.in_range, length-set (set c.loop-place.stored place lower) (place - 1), length-set c.loop-place.stored place);
       above = omega (arith, c.loop-place-test.true);
       items = λ xs is.
           let here : c.loop-place.stored ≡ insert xs place c.args.element = c.loop-place.invariant.items xs is in
