@@ -4,3 +4,4 @@ pub mod Positions
 pub mod Joins
 pub mod Keys
 pub mod Keyed
+pub mod Stored

@@ -5,3 +5,4 @@ pub mod Lines
 pub mod Subjects
 pub mod Keys
 pub mod Keyed
+pub mod Stored

@@ -57,6 +57,14 @@ impl BuildHasher for SeededHash {
 }
 
 impl Key {
+    /// Returns the number of bytes of the name.
+    #[inline(always)]
+    pub fn name_length(self) -> usize
+        ensures { result ≡ self.length }
+    {
+        self.length
+    }
+
     /// Returns the slot of the key in a cache of 16,384 slots. The multiplier was found by a search: of 4,096 names that are
     /// a word and a number, 3.5 per cent share their slot with a later one, in the mean over such words; with 2 ^ 64
     /// divided by the golden ratio it would be 9.8 per cent.

@@ -1,8 +1,14 @@
 //! A table of distinct names, in the order in which they were bound.
 //!
 //! Names are found by a key of fixed size (two machine words and the length; module `key`), so a look-up compares no bytes.
-//! An entry takes 48 bytes: the key and the name, which has at most 16 bytes. No line of a script contains a longer name;
-//! `bind` returns `AllocError` for one.
+//! No line of a script contains a name of more than 16 bytes; `bind` returns `AllocError` for one.
+//!
+//! The texts of all names are in one string, one after the other. The entry of a name is its key and the end of its text in
+//! that string; the key has the length of the text. So an entry takes 28 bytes, and the text about six on average. With an
+//! `ArrayString<16>` for the text it would take 48 bytes.
+//!
+//! The invariant says of each entry that the text has this key, and that the string may be cut where the text starts and
+//! where it ends, so `name_of` tests neither. A text that is added at the end of the string changes no other text.
 //!
 //! Most look-ups need no search of the hash table: a cache, indexed by a hash of 14 bits of the key (its *slot*), has the
 //! position of the name that was bound last with that slot. The name that was bound before it moves to the other slot of
@@ -12,12 +18,12 @@
 //! The hash has a seed. If it were known to the author of a script, the script could have 60,000 names of equal hash, and each
 //! look-up would compare them all.
 
-ghost use Rattle.std.specs.Prelude.{◌≡◌, ℕ, ◌+◌, ◌<◌, ◌≤◌, ◌^◌, List, [], ◌∷◌, ◌++◌, map, length, All, IfOk, IfSome, OnOk, OnErr, slice_get, option_map, Option, None, Some, true};
+ghost use Rattle.std.specs.Prelude.{◌≡◌, ℕ, ◌+◌, ◌<◌, ◌≤◌, ◌^◌, List, [], ◌∷◌, ◌++◌, map, length, All, IfOk, IfSome, OnOk, OnErr, slice_get, option_map, Option, None, Some, true, string_bytes};
 ghost use Rattle.esr_report.specs.Names.{position_of, all_distinct};
 ghost use Rattle.esr_report.specs.Keyed.{IsKeyOf};
+ghost use Rattle.esr_report.specs.Stored.{text_of, IsStored};
 
 use crate::key::{Key, SeededHash, key_of};
-use arrayvec::ArrayString;
 use indexmap::IndexMap;
 use std::alloc::{AllocError, Global};
 use std::marker::Model;
@@ -36,13 +42,13 @@ pub trait NamesByPosition {
 /// The number of slots of the cache.
 const CACHE_SLOTS: usize = 16_384;
 
-/// A name, which is stored in the table itself: it has at most 16 bytes.
-type Name = ArrayString<16>;
-
 /// A table of names, in the order in which they were bound. No name is bound twice.
 #[derive(Drop)]
 pub struct Names {
-    names: IndexMap<Key, Name, SeededHash>,
+    /// The key of each name, and the end of its text in `texts`.
+    names: IndexMap<Key, u32, SeededHash>,
+    /// The texts of the names, one after the other.
+    texts: String,
     /// For each slot, the position of the name that was bound last with this slot, or of one that moved from the other slot
     /// of the pair, or 0. It is empty until the first name is bound, and as long as its allocation fails.
     cache: Vec<u32>,
@@ -71,11 +77,11 @@ fn store_position(cache: &mut Vec<u32>, slot: usize, position: u32) {
 impl Model for Names {
     ghost Value = { List (List ℕ) };
 
-    ghost view = { λ n. map (λ entry. entry.1.bytes) n.names.entries };
+    ghost view = { λ n. map (text_of (string_bytes n.texts)) n.names.entries };
 
     ghost invariant = { λ n. (length n.names.entries ≤ 2 ^ 32)
-        × (all_distinct (map (λ entry. entry.1.bytes) n.names.entries) ≡ true)
-        × All (λ entry. IsKeyOf entry.0 entry.1.bytes) n.names.entries };
+        × (all_distinct (map (text_of (string_bytes n.texts)) n.names.entries) ≡ true)
+        × All (IsStored (string_bytes n.texts)) n.names.entries };
 }
 
 impl Names {
@@ -92,6 +98,7 @@ impl Names {
     {
         Names {
             names: IndexMap::with_hasher(alloc, SeededHash::new(seed)),
+            texts: String::new(alloc),
             cache: Vec::new(alloc),
         }
     }
@@ -166,7 +173,10 @@ impl Names {
         ensures { option_map (λ name. name.now) result ≡ slice_get self.now position }
     {
         match self.names.get_index(position as usize) {
-            Some((_, name)) => Some(name.as_str()),
+            Some((key, end)) => {
+                let end = *end as usize;
+                Some(&self.texts.as_str()[end - key.name_length()..end])
+            }
             None => None,
         }
     }
@@ -175,7 +185,7 @@ impl Names {
     ///
     /// # Errors
     /// If an allocation fails, or the name has more than 16 bytes: no line contains such a name, and the table cannot
-    /// hold it. Then nothing has changed.
+    /// hold it. Also if all texts together would have 2 ^ 32 bytes or more. In each case nothing has changed.
     pub fn bind(&mut self, name: &str) -> Result<u32, AllocError>
         requires unbound { position_of self.old name.now ≡ None }
         requires count_within_max { length self.old < 2 ^ 32 }
@@ -184,11 +194,16 @@ impl Names {
         ensures err { OnErr result (self.new ≡ self.old) }
     {
         let position = self.names.len();
-        let Ok(text) = Name::from(name) else {
+        if name.len() > 16 {
+            return Err(AllocError);
+        }
+        let Ok(end) = u32::try_from(self.texts.len() + name.len()) else {
             return Err(AllocError);
         };
         let key = key_of(name);
-        self.names.insert(key, text)?;
+        self.texts.reserve(name.len())?;
+        self.names.insert(key, end)?;
+        let _ = self.texts.push_str(name); // Ok: the capacity is reserved
         store_position(&mut self.cache, key.slot(), position as u32);
         Ok(position as u32)
     }
