@@ -17,12 +17,13 @@ ghost use Rattle.esr_locks.specs.Tables.{no_locks, locks_at, spare_list_capacity
 
 use crate::entry::LockEntry;
 use crate::lists::QueryReads;
-use crate::locked_items::LockedItems;
+use crate::locked_items::{FreeLists, LockedItems};
 use crate::mode::Mode;
 use esr_history::{BeginKind, NoMemory, TxnId};
 use esr_items::ItemId;
 use std::alloc::{AllocError, Global};
 use std::marker::Model;
+use std::mem::replace;
 
 /// The lock table of rigorous two-phase locking: a transaction holds its locks until they are
 /// released together (Bernstein, Hadzilacos and Goodman, 1987). Updates take read and write locks,
@@ -34,6 +35,7 @@ use std::marker::Model;
 pub struct LockTable {
     entries: Vec<LockEntry>,
     by_transaction: Vec<LockedItems>,
+    free: FreeLists,
     alloc: Global,
 }
 
@@ -109,14 +111,14 @@ fn locked_items_of(by_transaction: &[LockedItems], t: TxnId) -> &[ItemId]
     }
 }
 
-/// Replaces the list of a transaction by an empty one, and frees its memory.
-fn clear_list(by_transaction: &mut Vec<LockedItems>, alloc: Global, t: TxnId)
+/// Replaces the list of a transaction by an empty one, and keeps its memory for another transaction.
+fn clear_list(by_transaction: &mut Vec<LockedItems>, free: &mut FreeLists, alloc: Global, t: TxnId)
     ensures { (u : ℕ) → (items_locked_by by_transaction.new.items u).items
         ≡ (if t.0 == u then [] else (items_locked_by by_transaction.old.items u).items) }
 {
     let at = t.0 as usize;
     if at < by_transaction.len() {
-        by_transaction[at] = LockedItems::new(alloc);
+        free.keep(replace(&mut by_transaction[at], LockedItems::new(alloc)));
     }
 }
 
@@ -150,6 +152,7 @@ impl LockTable {
             Ok(entries) => Ok(LockTable {
                 entries,
                 by_transaction: Vec::new(alloc),
+                free: FreeLists::new(alloc),
                 alloc,
             }),
             Err(_) => Err(NoMemory),
@@ -245,7 +248,10 @@ impl LockTable {
         if ensure_list(&mut self.by_transaction, self.alloc, t).is_err() {
             return Err(NoMemory);
         }
-        if self.by_transaction[t.0 as usize].reserve().is_err() {
+        if self.by_transaction[t.0 as usize]
+            .reserve(&mut self.free)
+            .is_err()
+        {
             return Err(NoMemory);
         }
         Ok(())
@@ -365,7 +371,7 @@ impl LockTable {
             t,
             kind,
         );
-        clear_list(&mut self.by_transaction, self.alloc, t);
+        clear_list(&mut self.by_transaction, &mut self.free, self.alloc, t);
     }
 
     /// Releases all locks of a transaction.
