@@ -13,6 +13,6 @@ mod quick;
 mod words;
 
 pub use limits::{INPUT_ROOM, MAX_LINE_BYTES, MAX_LINES};
-pub use next::{Next, next_line};
+pub use next::{Next, find_line_feed, next_line};
 pub use parse::{Line, Parsed, parse_begin_or_commit, parse_line, parse_read, parse_write};
 pub use words::name;

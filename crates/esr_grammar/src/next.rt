@@ -36,7 +36,7 @@ fn search_line_feed(bytes: &[u8]) -> Option<usize>
 
 /// Returns the index of the first line feed. Most lines have fewer than 32 bytes.
 #[inline(always)]
-fn find_line_feed(bytes: &[u8]) -> Option<usize>
+pub fn find_line_feed(bytes: &[u8]) -> Option<usize>
     ensures { result ≡ position (λ b. nat_eq b 10) bytes.now }
 {
     if bytes.len() >= 32 {

@@ -10,10 +10,8 @@ use Rattle.esr_history.proofs.Ascending.{le_ltb, lt_ltb}
 use Rattle.esr_report.specs.Names.{position_of}
 use Rattle.esr_plan.specs.Plan.{new_name}
 use Rattle.esr_plan.specs.Blocks.{begins}
-use Rattle.esr_plan.specs.declared.call.Caller.{Caller}
-use Rattle.esr_plan.specs.declared.call.Operand.{Operand}
 use Rattle.esr_plan.specs.declared.call.Call.TheVariants.{Begin, Read, Write, Commit, Abort}
-use Rattle.esr_plan.specs.Calls.{caller_of, command_of, operand_of, place_of, IsCaller, IsOperand, IsResolved, AreResolved, Call}
+use Rattle.esr_plan.specs.Calls.{command_of, place_of, IsResolved, AreResolved, Call}
 use Rattle.esr_plan.specs.Drafts.{place_since, ArePlaces}
 
 -- ---- the first place that passes a test
@@ -163,57 +161,3 @@ resolved_more names calls call are is i c lt = elim (cases_Bool (nat_lt i (lengt
       subst (λ (l : List Call). IsResolved names l (get_or (calls ++ call ∷ []) i c)) (sym (take-append-le i calls (call ∷ []) (omega (arith, at)) ∙ take_all i calls (omega (arith, at))))
       (subst (λ (x : Call). IsResolved names calls x) (sym (get_or_at calls call [] c i at)) is)
 ]
-
--- ---- what the last call of a block names, the next one may name too
-
-last_at : (calls : List Call) (call : Call) → slice_get calls (length calls - 1) ≡ Some call → (length calls - 1 < length calls) × (get_or calls (length calls - 1) call ≡ call)
-last_at [] call is = cc
-last_at (c ∷ calls) call is = (
-  omega arith,
-  sym (unwrap_or-slice_get (c ∷ calls) (length (c ∷ calls) - 1) call) ∙ ap (λ o. unwrap_or o call) is,
-)
-
-caller_of_call : (names : List (List ℕ)) (earlier : List Call) (call : Call) (txn : Caller) → IsResolved names earlier call → caller_of call ≡ Some txn → IsCaller (earlier ++ call ∷ []) txn
-caller_of_call names earlier (Begin name k limit) txn resolved is = cc
-caller_of_call names earlier (Read t x) txn resolved is =
-    let same : t ≡ txn = cc in
-    subst (λ (y : Caller). IsCaller (earlier ++ Read t x ∷ []) y) same (resolved.0 ∙ sym (place_kept earlier (Read t x) t.name.now refl))
-caller_of_call names earlier (Write t x value) txn resolved is =
-    let same : t ≡ txn = cc in
-    subst (λ (y : Caller). IsCaller (earlier ++ Write t x value ∷ []) y) same (resolved.0 ∙ sym (place_kept earlier (Write t x value) t.name.now refl))
-caller_of_call names earlier (Commit t) txn resolved is =
-    let same : t ≡ txn = cc in
-    subst (λ (y : Caller). IsCaller (earlier ++ Commit t ∷ []) y) same (resolved ∙ sym (place_kept earlier (Commit t) t.name.now refl))
-caller_of_call names earlier (Abort t) txn resolved is =
-    let same : t ≡ txn = cc in
-    subst (λ (y : Caller). IsCaller (earlier ++ Abort t ∷ []) y) same (resolved ∙ sym (place_kept earlier (Abort t) t.name.now refl))
-
-last_calls : (names : List (List ℕ)) (calls : List Call) (call : Call) (txn : Caller) → AreResolved names calls → slice_get calls (length calls - 1) ≡ Some call → caller_of call ≡ Some txn → IsCaller calls txn
-last_calls names calls call txn are last is =
-    let i = length calls - 1 in
-    let at = last_at calls call last in
-    let resolved : IsResolved names (take i calls) call = subst (λ (c : Call). IsResolved names (take i calls) c) at.1 (are i call at.0) in
-    let parts : calls ≡ take i calls ++ call ∷ [] =
-    sym (take_all (i + 1) calls (omega (arith, at.0))) ∙ (take_more calls i call at.0 ∙ ap (λ (c : Call). take i calls ++ c ∷ []) at.1) in
-    subst (λ (l : List Call). IsCaller l txn) (sym parts) (caller_of_call names (take i calls) call txn resolved is)
-
-pub last_caller : (names : List (List ℕ)) (calls : List Call) (call : Call) (txn : Option Caller) → AreResolved names calls → slice_get calls (length calls - 1) ≡ Some call → txn ≡ caller_of call → IfSome txn (IsCaller calls)
-last_caller names calls call None are last is = tt
-last_caller names calls call (Some txn) are last is = last_calls names calls call txn are last (sym is)
-
-operand_resolved : (names : List (List ℕ)) (earlier : List Call) (call : Call) (x : Operand) → IsResolved names earlier call → operand_of call ≡ Some x → IsOperand names x
-operand_resolved names earlier (Begin name k limit) x resolved is = cc
-operand_resolved names earlier (Read t y) x resolved is =
-    let same : y ≡ x = cc in
-    subst (λ (z : Operand). IsOperand names z) same resolved.1
-operand_resolved names earlier (Write t y value) x resolved is =
-    let same : y ≡ x = cc in
-    subst (λ (z : Operand). IsOperand names z) same resolved.1
-operand_resolved names earlier (Commit t) x resolved is = cc
-operand_resolved names earlier (Abort t) x resolved is = cc
-
-pub last_operand : (names : List (List ℕ)) (calls : List Call) (call : Call) (x : Operand) → AreResolved names calls → slice_get calls (length calls - 1) ≡ Some call → operand_of call ≡ Some x → IsOperand names x
-last_operand names calls call x are last is =
-    let i = length calls - 1 in
-    let at = last_at calls call last in
-    operand_resolved names (take i calls) call x (subst (λ (c : Call). IsResolved names (take i calls) c) at.1 (are i call at.0)) is

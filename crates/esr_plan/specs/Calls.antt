@@ -74,19 +74,6 @@ IsCaller earlier txn = txn.begin ≡ place_of earlier txn.name.now
 abbrev pub IsOperand : List (List ℕ) → Operand → Type 0
 IsOperand names x = x.item ≡ item_called names x.name.now
 
--- the transaction that a call names, unless the call is a begin, and its item
-abbrev pub caller_of : Call → Option Caller
-caller_of (call.Begin name k limit) = None
-caller_of (call.Read txn x) = Some txn
-caller_of (call.Write txn x value) = Some txn
-caller_of (call.Commit txn) = Some txn
-caller_of (call.Abort txn) = Some txn
-
-abbrev pub operand_of : Call → Option Operand
-operand_of (call.Read txn x) = Some x
-operand_of (call.Write txn x value) = Some x
-operand_of _ = None
-
 -- the names in the call, after these calls of its block
 abbrev pub IsResolved : List (List ℕ) → List Call → Call → Type 0
 IsResolved names earlier (call.Read txn x) = IsCaller earlier txn × IsOperand names x

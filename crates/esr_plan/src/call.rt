@@ -6,7 +6,7 @@
 
 ghost use Rattle.std.specs.Prelude.{◌≡◌, option_map};
 ghost use Rattle.esr_report.specs.Subjects.{named_by};
-ghost use Rattle.esr_plan.specs.Calls.{begin_event, caller_of, command_of, event_by, number_by, operand_of};
+ghost use Rattle.esr_plan.specs.Calls.{begin_event, command_of, event_by, number_by};
 ghost use Rattle.esr_plan.specs.Plan.{new_name};
 ghost use Rattle.esr_plan.specs.Blocks.{number_in};
 ghost use Rattle.esr_plan.specs.Text.{subject_of};
@@ -62,30 +62,6 @@ impl<'a> Call<'a> {
     {
         match self {
             Call::Begin { name, .. } => Some(name),
-            _ => None,
-        }
-    }
-
-    /// Returns the transaction that the call names, if the call is not a begin.
-    pub fn caller(&self) -> Option<Caller<'a>>
-        ensures { result ≡ caller_of self.now }
-    {
-        match self {
-            Call::Begin { .. } => None,
-            Call::Read { txn, .. } => Some(*txn),
-            Call::Write { txn, .. } => Some(*txn),
-            Call::Commit { txn } => Some(*txn),
-            Call::Abort { txn } => Some(*txn),
-        }
-    }
-
-    /// Returns the item that the call names.
-    pub fn operand(&self) -> Option<Operand<'a>>
-        ensures { result ≡ operand_of self.now }
-    {
-        match self {
-            Call::Read { item, .. } => Some(*item),
-            Call::Write { item, .. } => Some(*item),
             _ => None,
         }
     }

@@ -1,8 +1,8 @@
 //! Makes the plan of a drive file, line after line, or reports the lowest error number of the first line with a
 //! fault.
 //!
-//! Most lines name the transaction of the previous line, and many its item. So a name is compared with that line's
-//! before it is looked up; the line is available, and nothing has to be stored for it.
+//! Rejected: to compare a name with that of the previous line before it is looked up. A look-up compares keys of fixed size, and
+//! takes fewer instructions than a comparison of two texts.
 //!
 //! The plan keeps whether a weight was given: an item's line is echoed as it was written.
 //!
@@ -10,7 +10,7 @@
 //! may leave a draft half changed; it is then dropped.
 
 ghost use Rattle.esr_grammar.specs.declared.limits.TheConstants.{MAX_LINES};
-ghost use Rattle.std.specs.Prelude.{◌≡◌, ◌+◌, ◌-◌, ◌<◌, ◌≤◌, ◌⊎◌, ◌^◌, true, false, Ok, Err, Some, None, OnOk, IfOk, IfErr, IfSome, length, slice_get, option_copied};
+ghost use Rattle.std.specs.Prelude.{◌≡◌, ◌+◌, ◌<◌, ◌≤◌, ◌⊎◌, ◌^◌, true, false, Ok, Err, None, OnOk, IfOk, IfErr, length};
 ghost use Rattle.esr_items.specs.Weights.{is_weight};
 ghost use Rattle.esr_grammar.specs.Lines.{lines};
 ghost use Rattle.esr_grammar.specs.Command.{view};
@@ -152,44 +152,16 @@ impl<'a> Draft<'a> {
         self.places.get(number).copied()
     }
 
-    /// Returns the last call of the open block.
-    fn last_call(&self) -> Option<&Call<'a>>
-        ensures { option_copied result ≡ slice_get (current_calls self.now) (length (current_calls self.now) - 1) }
-    {
-        match &self.current {
-            Some(block) => block.last(),
-            None => None,
-        }
-    }
-
-    /// Returns the transaction that the previous line names, if that is not a begin.
-    fn last_caller(&self) -> Option<Caller<'a>>
-        requires { IsSound self.now }
-        ensures { IfSome result (IsCaller (current_calls self.now)) }
-    {
-        self.last_call()?.caller()
-    }
-
-    /// Returns the item that the previous line names.
-    #[tactic(auto, using(crate::proofs::Placing::last_operand))]
-    fn last_operand(&self) -> Option<Operand<'a>>
-        requires { IsSound self.now }
-        ensures { IfSome result (IsOperand self.now.names) }
-    {
-        self.last_call()?.operand()
-    }
-
     /// Returns the transaction that a line names.
     fn caller(&self, name: &'a str) -> Caller<'a>
         requires { IsSound self.now }
         ensures name { result.name.now ≡ name.entry.now }
         ensures begin { IsCaller (current_calls self.now) result }
     {
-        let begin = match self.last_caller() {
-            Some(last) if last.name == name => last.begin,
-            _ => self.place_of(name),
-        };
-        Caller { name, begin }
+        Caller {
+            name,
+            begin: self.place_of(name),
+        }
     }
 
     /// Returns the item that a line names.
@@ -198,11 +170,10 @@ impl<'a> Draft<'a> {
         ensures name { result.name.now ≡ name.entry.now }
         ensures item { IsOperand self.now.names result }
     {
-        let item = match self.last_operand() {
-            Some(last) if last.name == name => last.item,
-            _ => self.item_of(name),
-        };
-        Operand { name, item }
+        Operand {
+            name,
+            item: self.item_of(name),
+        }
     }
 
     /// Returns the number of an item's name.

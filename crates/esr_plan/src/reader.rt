@@ -2,7 +2,7 @@
 //! this fault is that of the file, whatever follows, so an endless stream does not take endless memory.
 
 ghost use Rattle.esr_grammar.specs.declared.limits.TheConstants.{MAX_LINES, MAX_LINE_BYTES};
-ghost use Rattle.std.specs.Prelude.{◌≡◌, ℕ, List, false, ◌<◌, ◌≤◌, ◌↔◌, [], ◌∷◌, ◌++◌, None, Some, IfOk, IfErr, IsErrOf, IsTrue, MatchOption, MatchResult, length, nat_eq, position};
+ghost use Rattle.std.specs.Prelude.{◌≡◌, ℕ, List, false, ◌<◌, ◌≤◌, ◌↔◌, [], ◌∷◌, ◌++◌, None, Some, IfOk, IfErr, IsErrOf, IsTrue, MatchOption, MatchResult, length};
 ghost use Rattle.std.specs.Io.KnownBytes.{Consumes, IsAtEnd};
 ghost use Rattle.esr_base.specs.Watch.{inner, failed};
 ghost use Rattle.esr_grammar.specs.Lines.{lines};
@@ -10,16 +10,10 @@ ghost use Rattle.esr_plan.specs.Plan.{line_limit_fault};
 ghost use Rattle.esr_plan.specs.Readings.{IsMark, IsLineFault, IsReadFault, rest_from};
 
 use crate::fault::DriveFault;
-use esr_grammar::{INPUT_ROOM, MAX_LINE_BYTES, MAX_LINES};
+use esr_grammar::{INPUT_ROOM, MAX_LINE_BYTES, MAX_LINES, find_line_feed};
 use esr_history::Watched;
 use std::alloc::{AllocError, Global};
 use std::io::Read;
-
-fn find_line_feed(bytes: &[u8]) -> Option<usize>
-    ensures { result ≡ position (λ b. nat_eq b 10) bytes.now }
-{
-    bytes.iter().position(|b| *b == b'\n')
-}
 
 /// Returns the first line, and the bytes after its line feed.
 #[tactic(auto, using(crate::proofs::Cuts::at_feed, crate::proofs::Cuts::shorter))]
