@@ -1,5 +1,5 @@
 -- From the parts of a drive to its text.
-use Rattle.std.proofs.Common.{◌≡◌, ℕ, zero, suc, All, arith, ◌+◌, ◌⊎◌, length, sum_by, refl, inl, inr, List, [], ◌∷◌, ◌++◌, map, Option, Some, None, Result, Ok, Err, IfOk, Vec, Global, ap, sym, subst, ◌∙◌}
+use Rattle.std.proofs.Common.{◌≡◌, ℕ, zero, suc, All, arith, ◌+◌, ◌⊎◌, length, sum_by, refl, inl, inr, List, [], ◌∷◌, ◌++◌, map, Option, Some, None, Result, Ok, Err, IfOk, Vec, Global, ap, ap₂, sym, subst, ◌∙◌, append_assoc}
 use mathlib.Core.List.{map-map}
 use Rattle.std.specs.declared.alloc.AllocError.{AllocError}
 use Rattle.std.proofs.lemmas.List.{length-map}
@@ -23,7 +23,7 @@ use Rattle.esr_drive.specs.declared.form.DriveOutput.TheVariants as form
 use Rattle.esr_dump.specs.RoundTrip.{IsDump}
 use Rattle.esr_plan.specs.Blocks.{Answered}
 use Rattle.esr_plan.specs.Text.{names_of, text_of}
-use Rattle.esr_drive.specs.Faults.{IsTextFault, IsEngineFault, CanFill}
+use Rattle.esr_drive.specs.Faults.{IsTextFault, IsEngineFault}
 
 all_items : (P : List Call → Type 0) (bs : List (Vec Call Global)) → All (λ b. P b.items) bs → All P (map (λ b. b.items) bs)
 all_items P [] all i x lt = absurd (omega (arith, lt))
@@ -31,13 +31,13 @@ all_items P (b ∷ bs) all zero x lt = all 0 b (omega arith)
 all_items P (b ∷ bs) all (suc i) x lt = all_items P bs (λ j y below. all (suc j) y (omega (arith, below))) i x (omega (arith, lt))
 
 -- a text in the requested form
-pub text_written : (what : DriveOutput) (workers : ℕ) (p : Plan) (h : Schedule) (blocks : List (List Answered)) (r : Result (Vec ℕ Global) AllocError) → what ≡ form.Text workers
-    → IfOk r (λ out. out.items ≡ text_of p h blocks) → IfOk r (λ out. IsRenderingOf what p h blocks out.items)
-text_written what workers p h blocks r is reported = subst (λ (w : DriveOutput). IfOk r (λ out. IsRenderingOf w p h blocks out.items)) (sym is) reported
+pub text_written : (what : DriveOutput) (workers : ℕ) (p : Plan) (h : Schedule) (blocks : List (List Answered)) (r : Result (List ℕ) AllocError) → what ≡ form.Text workers
+    → IfOk r (λ text. text ≡ text_of p h blocks) → IfOk r (IsRenderingOf what p h blocks)
+text_written what workers p h blocks r is reported = subst (λ (w : DriveOutput). IfOk r (IsRenderingOf w p h blocks)) (sym is) reported
 
-pub history_written : (what : DriveOutput) (p : Plan) (h : Schedule) (blocks : List (List Answered)) (r : Result (Vec ℕ Global) AllocError) → what ≡ form.Script
-    → IfOk r (λ out. IsDump p.names (names_of h blocks) h out.items) → IfOk r (λ out. IsRenderingOf what p h blocks out.items)
-history_written what p h blocks r is reported = subst (λ (w : DriveOutput). IfOk r (λ out. IsRenderingOf w p h blocks out.items)) (sym is) reported
+pub history_written : (what : DriveOutput) (p : Plan) (h : Schedule) (blocks : List (List Answered)) (r : Result (List ℕ) AllocError) → what ≡ form.Script
+    → IfOk r (IsDump p.names (names_of h blocks) h) → IfOk r (IsRenderingOf what p h blocks)
+history_written what p h blocks r is reported = subst (λ (w : DriveOutput). IfOk r (IsRenderingOf w p h blocks)) (sym is) reported
 
 -- the text of the drive is one of the file
 pub drive_text : (what : DriveOutput) (bytes : List ℕ) (s : DrivePlan) (h : Schedule) (replies : List (List Reply)) (out : List ℕ)
@@ -117,7 +117,10 @@ engine_fault bytes s fault.HistoryFull planned is = (plan_in s, planned, omega (
 engine_fault bytes s fault.Close planned is = (plan_in s, planned)
 engine_fault bytes s _ planned is = absurd is
 
--- four parts, one after another
-pub four_parts : (o0 o1 o2 o3 o4 a b c d : List ℕ) → o0 ≡ [] → o1 ≡ o0 ++ a → o2 ≡ o1 ++ b → o3 ≡ o2 ++ c → o4 ≡ o3 ++ d → o4 ≡ a ++ b ++ c ++ d
-four_parts o0 o1 o2 o3 o4 a b c d e0 e1 e2 e3 e4 =
-    e4 ∙ ap (λ l. l ++ d) (e3 ∙ ap (λ l. l ++ c) (e2 ∙ ap (λ l. l ++ b) (e1 ∙ ap (λ l. l ++ a) e0)))
+-- the start, the blocks, and the end, which has two pieces
+pub three_parts : (text0 text1 text2 text3 end0 end1 end2 start a b c d : List ℕ) → text0 ≡ [] → start ≡ a → text1 ≡ text0 ++ start → text2 ≡ text1 ++ b
+    → end0 ≡ [] → end1 ≡ end0 ++ c → end2 ≡ end1 ++ d → text3 ≡ text2 ++ end2 → text3 ≡ a ++ b ++ c ++ d
+three_parts text0 text1 text2 text3 end0 end1 end2 start a b c d t0 s t1 t2 e0 e1 e2 t3 =
+    let last : end2 ≡ c ++ d = e2 ∙ ap (λ l. l ++ d) (e1 ∙ ap (λ l. l ++ c) e0) in
+    let first : text2 ≡ a ++ b = t2 ∙ ap (λ l. l ++ b) (t1 ∙ ap₂ (λ x y. x ++ y) t0 s) in
+    t3 ∙ (ap₂ (λ x y. x ++ y) first last ∙ sym (append_assoc (a ++ b) c d))

@@ -6,6 +6,7 @@
 mod blocks;
 mod findings;
 mod form;
+mod parts;
 mod pieces;
 mod pipeline;
 mod run;

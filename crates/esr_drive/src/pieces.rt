@@ -1,6 +1,5 @@
 //! The lines of the blocks, which threads make block by block: this is a quarter of the work of a drive, the blocks
-//! are independent, and the threads of the sessions have ended by then. Sending the pieces one by one, instead of
-//! joining them into one text, would save a copy, but needs a writer whose contract covers several texts.
+//! are independent, and the threads of the sessions have ended by then.
 
 ghost use Rattle.std.specs.Prelude.{◌≡◌, ◌<◌, [], ◌++◌, IfOk, OnOk, length, map, slice_index_or};
 ghost use Rattle.esr_plan.specs.Calls.{AreAnswered, all_answers};
@@ -8,6 +7,7 @@ ghost use Rattle.esr_plan.specs.Text.{block_text, blocks_text};
 ghost use Rattle.esr_plan.specs.Tables.{names_in};
 ghost use Rattle.esr_drive.specs.Pieces.{ArePieces};
 
+use crate::parts::TextParts;
 use esr_history::Reply;
 use esr_plan::{BegunNames, Call, block_text};
 use std::alloc::{AllocError, Global};
@@ -63,23 +63,23 @@ fn pieces_of<R: Threads + Sync>(
     Ok(texts)
 }
 
-/// Appends the lines of the blocks.
+/// Appends the lines of the blocks, a part for each block.
 pub fn push_blocks<R: Threads + Sync>(
     rt: &R,
     alloc: Global,
-    out: &mut Vec<u8>,
+    text: &mut TextParts,
     names: &BegunNames<'_>,
     blocks: &[Vec<Call<'_>>],
     replies: &[Vec<Reply>],
 ) -> Result<(), AllocError>
     requires { AreAnswered (map (λ b. b.items) blocks.now) (map (λ r. r.items) replies.now) }
-    ensures { OnOk result (out.new.items ≡ out.old.items ++ blocks_text (names_in names.now) 0
+    ensures { OnOk result (text.new ≡ text.old ++ blocks_text (names_in names.now) 0
         (all_answers (map (λ b. b.items) blocks.now) (map (λ r. r.items) replies.now))) }
 {
     let pieces = pieces_of(rt, alloc, names, blocks, replies)?;
-    for i in 0..pieces.len() {
-        match &pieces[i] {
-            Ok(text) => out.extend_from_slice(text)?,
+    for piece in pieces {
+        match piece {
+            Ok(lines) => text.push(lines)?,
             Err(AllocError) => return Err(AllocError),
         }
     }

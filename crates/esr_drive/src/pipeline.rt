@@ -19,6 +19,7 @@ ghost use Rattle.esr_plan.specs.Plan.{line_limit_fault, weights_of};
 use crate::blocks::{Driven, drive_blocks};
 use crate::findings::push_findings;
 use crate::form::DriveOutput;
+use crate::parts::TextParts;
 use crate::pieces::push_blocks;
 use esr_board::Gate;
 use esr_dump::script_with_names;
@@ -60,8 +61,8 @@ pub fn drive<R: Threads + Wait + Sync, I: Read, O: Write, G: Gate + Sync, V: Obs
     ensures writer { IsTrue (failed writer.new) ↔ IsErrOf result DriveFault.Write }
 {
     let bytes = read_all(alloc, reader)?;
-    let out = text_in(rt, alloc, &bytes, form, gate, observer)?;
-    writer.send_all(&out).map_err(|_| DriveFault::Write)
+    let text = text_in(rt, alloc, &bytes, form, gate, observer)?;
+    text.send(writer).map_err(|_| DriveFault::Write)
 }
 
 /// Returns the output for the bytes of a file.
@@ -72,10 +73,10 @@ fn text_in<R: Threads + Wait + Sync, G: Gate + Sync, V: Observer>(
     form: DriveOutput,
     gate: &G,
     observer: &mut V,
-) -> Result<Vec<u8>, DriveFault>
+) -> Result<TextParts, DriveFault>
     requires read { line_limit_fault 0 (lines bytes.now) ≡ None }
     requires workers { HasWorkers form }
-    ensures text { IfOk result (λ out. IsDriveText form bytes.now out.items) }
+    ensures text { IfOk result (IsDriveText form bytes.now) }
     ensures faults { IfErr result (IsTextFault bytes.now) }
 {
     let drive_plan = match drive_plan_of(alloc, bytes, observer.hash_seed()) {
@@ -90,7 +91,7 @@ fn text_in<R: Threads + Wait + Sync, G: Gate + Sync, V: Observer>(
         Err(fault) => return Err(fault),
     };
     match text_from(rt, alloc, form, &drive_plan, &driven) {
-        Ok(out) => Ok(out),
+        Ok(text) => Ok(text),
         Err(_) => Err(DriveFault::NoMemory),
     }
 }
@@ -142,15 +143,15 @@ fn text_from<R: Threads + Sync>(
     form: DriveOutput,
     drive_plan: &DrivePlan<'_>,
     driven: &Driven,
-) -> Result<Vec<u8>, AllocError>
+) -> Result<TextParts, AllocError>
     requires workers { HasWorkers form }
     requires sound { IsSound drive_plan.now }
     requires driven { IsDriven drive_plan.now.values.items (weights_of drive_plan.now.weights.items)
         (map (λ b. b.items) drive_plan.now.blocks.items) driven.now.history.schedule
         (map (λ r. r.items) driven.now.replies.items) }
     requires totals { AreTotals weighted driven.now.history.schedule driven.now.totals }
-    ensures { IfOk result (λ out. IsRenderingOf form (plan_in drive_plan.now) driven.now.history.schedule
-        (all_answers (map (λ b. b.items) drive_plan.now.blocks.items) (map (λ r. r.items) driven.now.replies.items)) out.items) }
+    ensures { IfOk result (IsRenderingOf form (plan_in drive_plan.now) driven.now.history.schedule
+        (all_answers (map (λ b. b.items) drive_plan.now.blocks.items) (map (λ r. r.items) driven.now.replies.items))) }
 {
     match form {
         DriveOutput::Text { audit_workers } => {
@@ -165,18 +166,21 @@ fn script_from(
     alloc: Global,
     drive_plan: &DrivePlan<'_>,
     driven: &Driven,
-) -> Result<Vec<u8>, AllocError>
+) -> Result<TextParts, AllocError>
     requires driven { IsDriven drive_plan.now.values.items (weights_of drive_plan.now.weights.items)
         (map (λ b. b.items) drive_plan.now.blocks.items) driven.now.history.schedule
         (map (λ r. r.items) driven.now.replies.items) }
-    ensures { IfOk result (λ out. IsDump drive_plan.now.names (names_of driven.now.history.schedule
+    ensures { IfOk result (IsDump drive_plan.now.names (names_of driven.now.history.schedule
         (all_answers (map (λ b. b.items) drive_plan.now.blocks.items) (map (λ r. r.items) driven.now.replies.items)))
-        driven.now.history.schedule out.items) }
+        driven.now.history.schedule) }
 {
     let blocks = drive_plan.blocks.as_slice();
     let replies = driven.replies.as_slice();
     let names = begun_names(alloc, &driven.history, blocks, replies)?;
-    script_with_names(alloc, &drive_plan.names, &names, &driven.history)
+    let script = script_with_names(alloc, &drive_plan.names, &names, &driven.history)?;
+    let mut text = TextParts::new(alloc);
+    text.push(script)?;
+    Ok(text)
 }
 
 /// Returns the replies of the blocks, the finding of each query, and the totals.
@@ -186,29 +190,33 @@ fn answers_from<R: Threads + Sync>(
     workers: u64,
     drive_plan: &DrivePlan<'_>,
     driven: &Driven,
-) -> Result<Vec<u8>, AllocError>
+) -> Result<TextParts, AllocError>
     requires workers { (1 ≤ workers) × (workers ≤ MAX_SEATS) }
     requires sound { IsSound drive_plan.now }
     requires driven { IsDriven drive_plan.now.values.items (weights_of drive_plan.now.weights.items)
         (map (λ b. b.items) drive_plan.now.blocks.items) driven.now.history.schedule
         (map (λ r. r.items) driven.now.replies.items) }
     requires totals { AreTotals weighted driven.now.history.schedule driven.now.totals }
-    ensures { IfOk result (λ out. out.items ≡ text_of (plan_in drive_plan.now) driven.now.history.schedule
+    ensures { IfOk result (λ text. text ≡ text_of (plan_in drive_plan.now) driven.now.history.schedule
         (all_answers (map (λ b. b.items) drive_plan.now.blocks.items) (map (λ r. r.items) driven.now.replies.items))) }
 {
     let blocks = drive_plan.blocks.as_slice();
     let replies = driven.replies.as_slice();
     let totals = driven.totals;
     let names = begun_names(alloc, &driven.history, blocks, replies)?;
-    let mut out = Vec::new(alloc);
+    let mut text = TextParts::new(alloc);
+    let mut start = Vec::new(alloc);
     push_items(
-        &mut out,
+        &mut start,
         &drive_plan.names,
         drive_plan.values.as_slice(),
         drive_plan.weights.as_slice(),
     )?;
-    push_blocks(rt, alloc, &mut out, &names, blocks, replies)?;
-    push_findings(rt, alloc, &mut out, &driven.history, &names, workers)?;
-    totals_line(&mut out, totals.import, totals.export, totals.entries)?;
-    Ok(out)
+    text.push(start)?;
+    push_blocks(rt, alloc, &mut text, &names, blocks, replies)?;
+    let mut end = Vec::new(alloc);
+    push_findings(rt, alloc, &mut end, &driven.history, &names, workers)?;
+    totals_line(&mut end, totals.import, totals.export, totals.entries)?;
+    text.push(end)?;
+    Ok(text)
 }

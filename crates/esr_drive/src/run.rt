@@ -4,10 +4,13 @@
 //! A block executes several lines under one hold of the engine's lock while the other blocks wait, so a hold has a
 //! bound. The bound grows with the number of lines that the block has executed: the first lines take the lock one by
 //! one, so that short blocks still interleave, since a drive is meant to show interleavings. A long block executes
-//! 1,024 lines in a hold, about a tenth of a millisecond; waking a sleeping thread takes some tens of microseconds,
-//! which a much shorter hold would not outweigh. A blocked line ends a hold. Yielding to another thread (`yield_now`)
-//! before the retry halved the number of retries, and was slower if other programs used the processors. Ending a long
-//! hold at the end of a transaction, so that it leaves no lock held, caused more retries and was slower.
+//! up to 512 lines in a hold, about a tenth of a millisecond; waking a sleeping thread takes some tens of microseconds,
+//! which a much shorter hold would not outweigh.
+//!
+//! A hold ends with the last end of a transaction within its bound, so that the block usually locks no item while the
+//! others execute; 16 blocks on the same items then make a third fewer retries. A blocked line ends a hold. Rejected:
+//! yielding to another thread (`yield_now`) before a retry, which took a hundred times as long while other programs
+//! used the processors, and waiting in a loop, which took twice as long.
 //!
 //! The first touch of memory is slow, and in a hold all threads would wait for it. So a block writes to the buffers
 //! of its replies and receipts before its first hold, in parallel with the other blocks.
@@ -28,7 +31,7 @@ use std::sync::Wait;
 const TURNS: u32 = 100;
 
 /// The maximum number of lines that a block executes in one hold of the lock.
-const MAX_LINES: usize = 1024;
+const MAX_LINES: usize = 512;
 
 /// A block under way: its calls, the last replies to the first of them, and how often the next one was blocked.
 #[derive(Drop)]
@@ -87,14 +90,35 @@ pub fn run_block<N: Naming, R: Wait>(
     BlockOutcome { session, outcome }
 }
 
-/// Returns the maximum number of lines in a block's next hold of the lock, after `answered` lines.
-fn lines_of_hold(answered: usize) -> usize
+/// Returns the bound of a block's next hold of the lock, in lines, after `answered` lines.
+fn bound_of_hold(answered: usize) -> usize
     ensures { (1 ≤ result) × (result ≤ MAX_LINES) }
 {
-    if answered / 8 < MAX_LINES {
+    if answered < 64 {
         answered / 8 + 1
     } else {
-        MAX_LINES
+        MAX_LINES.min(answered / 2)
+    }
+}
+
+/// Returns whether the call ends its transaction if it is accepted.
+fn is_end(call: &Call<'_>) -> bool {
+    match call {
+        Call::Commit { .. } => true,
+        Call::Abort { .. } => true,
+        _ => false,
+    }
+}
+
+/// Returns the number of calls up to the last end of a transaction among the first `bound`, or `bound` if none is an end.
+fn calls_of_hold(calls: &[Call<'_>], bound: usize) -> usize
+    requires { 1 ≤ bound }
+    ensures { (1 ≤ result) × (result ≤ bound) }
+{
+    let within = &calls[..bound.min(calls.len())];
+    match within.iter().rposition(is_end) {
+        Some(last) => last + 1,
+        None => bound,
     }
 }
 
@@ -131,7 +155,8 @@ fn call_all<N: Naming, R: Wait>(
         blocked: 0,
     };
     while progress.replies.len() < calls.len() {
-        let upper_bound = lines_of_hold(progress.replies.len());
+        let answered = progress.replies.len();
+        let upper_bound = calls_of_hold(&calls[answered..], bound_of_hold(answered));
         session.call_several(rt, &mut progress, upper_bound)?;
     }
     let BlockProgress { replies, .. } = progress;

@@ -18,6 +18,9 @@ use esr_report::{
 };
 use std::alloc::{AllocError, Global};
 
+/// The capacity that is reserved for the line of a reply, in bytes. Of the lines in `bench/drive`, 99 of 100 have at most 29.
+const LINE_BYTES: usize = 32;
+
 /// Returns the name at a place.
 fn name_at(names: &Names, place: usize) -> &str
     requires { place < MAX_ITEMS }
@@ -105,7 +108,7 @@ pub fn block_text(
     ensures { IfOk result (λ text. text.items
         ≡ block_text (names_in names.now) number (answers_of calls.now replies.now)) }
 {
-    let mut text = Vec::new(alloc);
+    let mut text = Vec::with_capacity(alloc, calls.len().saturating_mul(LINE_BYTES))?;
     session_line(&mut text, number)?;
     push_replies(&mut text, names, calls, replies)?;
     Ok(text)

@@ -22,7 +22,7 @@ loop-progress-smaller g c =
     let len = ap length inv.0 in
     let lt : length old.replies.items < length c.args.calls.now = search rules in
     let count_within_max = bounded_calls new.calls.now new.replies.items new.blocked c.call_several.new.self heard.1 new.count_within_max in
-    nearer old.calls.now old.replies.items (length c.args.calls.now) c.in_ok-call_several.field-0 c.loop-progress.session made.0 c.call_several.new.self len lt (c.in_ok-call_several.ensures.none c.lines_of_hold-upper_bound.ensures.0) made.1 made.4 (omega (arith, count_within_max, ap length heard.0, len))
+    nearer old.calls.now old.replies.items (length c.args.calls.now) c.in_ok-call_several.field-0 c.loop-progress.session made.0 c.call_several.new.self len lt (c.in_ok-call_several.ensures.none c.calls_of_hold-upper_bound.ensures.0) made.1 made.4 (omega (arith, count_within_max, ap length heard.0, len))
 
 pub loop-progress-preserved : goal.loop-progress-preserved
 loop-progress-preserved g c =
